@@ -5,10 +5,9 @@ use Rattle.std.specs.Prelude.{IsSome, slice_index, unwrap_or}
 use Rattle.std.specs.Str.{bytes_eq}
 use Rattle.std.proofs.lemmas.Slice.Eq.{bytes_eq-Decides}
 use Rattle.clap.specs.Words.{Row, Text, first_of}
-use Rattle.macs_cli.specs.Words.{HasPlan, HasText, Names, end_word, stage_word}
-use Rattle.macs_cli.specs.declared.words.action.Action.{Action}
-use Rattle.macs_cli.specs.declared.words.action.Action.TheVariants.{Open, Format, Apply, Show, Protect, Validate, Relay}
-use Rattle.macs_cli.specs.declared.words.action.Action.TheVariants.{Ask, Key, Inspect, Check, Plan, Examine, About}
+use Rattle.macs_cli.specs.Words.{HasPlan, HasText, NamesTool, end_word, stage_word}
+use Rattle.macs_cli.specs.declared.words.action.ToolAction.{ToolAction}
+use Rattle.macs_cli.specs.declared.words.action.ToolAction.TheVariants.{Ask, Key, Inspect, Check, Plan, Examine, About}
 use Rattle.macs_cli.specs.declared.words.plan_words.PlanEnd.{PlanEnd}
 use Rattle.macs_cli.specs.declared.words.plan_words.PlanEnd.TheVariants as plan_end
 use Rattle.macs_cli.specs.declared.words.plan_words.PlanStage.{PlanStage}
@@ -62,19 +61,8 @@ stage-found rows word found there exactly stage has =
 -- ---- what `plan` is given
 
 -- its end and its stage are there
-pub plan_of : (rows : List Row) (action : Action) → Names (Some (codes "plan", rows)) action
+pub plan_of : (rows : List Row) (action : ToolAction) → NamesTool (codes "plan", rows) action
     → (end : PlanEnd) × (stage : PlanStage) × HasPlan rows end stage
-plan_of rows Open named = absurd (omega (arith, ap (λ (t : Text). slice_index t 0) named))
-plan_of rows (Format disk sci tx_block rx_block block is_over) named =
-    absurd (omega (arith, ap (λ (t : Text). slice_index t 0) named.0))
-plan_of rows (Apply disk file) named = absurd (omega (arith, ap (λ (t : Text). slice_index t 0) named.0))
-plan_of rows (Show disk) named = absurd (omega (arith, ap (λ (t : Text). slice_index t 0) named.0))
-plan_of rows (Protect disk input output is_all) named =
-    absurd (omega (arith, ap (λ (t : Text). slice_index t 1) named.0))
-plan_of rows (Validate disk input output is_all is_each) named =
-    absurd (omega (arith, ap (λ (t : Text). slice_index t 0) named.0))
-plan_of rows (Relay disk controlled common running) named =
-    absurd (omega (arith, ap (λ (t : Text). slice_index t 0) named.0))
 plan_of rows (Ask path asked is_json) named = absurd (omega (arith, ap (λ (t : Text). slice_index t 0) named.0))
 plan_of rows (Key is_long) named = absurd (omega (arith, ap (λ (t : Text). slice_index t 0) named.0))
 plan_of rows (Inspect input) named = absurd (omega (arith, ap (λ (t : Text). slice_index t 0) named.0))

@@ -27,8 +27,13 @@ use Rattle.clap.specs.declared.error.kind.ErrorKind.TheVariants.{OutOfMemory}
 use Rattle.clap.proofs.OnLiterals.{clap_on_literals}
 use Rattle.clap.proofs.ValueTestLemmas.{accepts-Accepts}
 use Rattle.macs_cli.specs.declared.words.action.Action.{Action}
-use Rattle.macs_cli.specs.declared.words.action.Action.TheVariants.{Open, Format, Apply, Show, Protect, Validate, Relay}
-use Rattle.macs_cli.specs.declared.words.action.Action.TheVariants.{Ask, Key, Inspect, Check, Plan, Examine, About}
+use Rattle.macs_cli.specs.declared.words.action.Action.TheVariants.{Open, OnDisk, OnFrames, Tool}
+use Rattle.macs_cli.specs.declared.words.action.DiskAction.{DiskAction}
+use Rattle.macs_cli.specs.declared.words.action.DiskAction.TheVariants.{Format, Apply, Show}
+use Rattle.macs_cli.specs.declared.words.action.FrameAction.{FrameAction}
+use Rattle.macs_cli.specs.declared.words.action.FrameAction.TheVariants.{Protect, Validate, Relay}
+use Rattle.macs_cli.specs.declared.words.action.ToolAction.{ToolAction}
+use Rattle.macs_cli.specs.declared.words.action.ToolAction.TheVariants.{Ask, Key, Inspect, Check, Plan, Examine, About}
 use Rattle.macs_cli.specs.declared.words.action.Question.{Question}
 use Rattle.macs_cli.specs.declared.words.action.Question.TheVariants as question
 use Rattle.macs_cli.specs.declared.words.pace.Pace.{Pace}
@@ -37,8 +42,9 @@ use Rattle.macs_cli.specs.declared.words.pace.Running.{Running}
 use Rattle.macs_cli.specs.declared.words.action.WireEnds.{WireEnds}
 use Rattle.macs_cli.specs.declared.words.action.UsageFault.{UsageFault}
 use Rattle.macs_cli.specs.declared.words.action.UsageFault.TheVariants.{Usage, Memory}
-use Rattle.macs_cli.specs.Words.{FitsNumbers, FitsPace, HasNumber, HasPace, HasQuestion, IsClapCommand, IsFaultOf}
-use Rattle.macs_cli.specs.Words.{IsFlagged, MayHaveRoom, Names, NamesNothing}
+use Rattle.macs_cli.specs.Words.{FitsNumbers, FitsOnDisk, FitsOnFrames, FitsPace, HasNumber, HasPace, HasQuestion}
+use Rattle.macs_cli.specs.Words.{IsClapCommand, IsFaultOf, IsFlagged, MayHaveRoom, Names, NamesNothing, NamesOnDisk}
+use Rattle.macs_cli.specs.Words.{NamesOnFrames, NamesTool}
 use Rattle.macs_cli.specs.Words.{bare_app, count_rule, flag_rule, is_report, last_rule, macsecd, number_rule}
 use Rattle.macs_cli.specs.Words.{option_rule, room_rule, value_rule, wait_rule}
 use Rattle.macs_cli.proofs.GivenWords.{AreValueRules, IsValueRule, given, passes_where_given}
@@ -87,69 +93,31 @@ one_more old sub new a b known its added =
 -- ---- what `format` is given
 
 -- its numbers are there
-pub blocks : (rows : List Row) (action : Action) → Names (Some (codes "format", rows)) action → FitsNumbers action
+pub blocks : (rows : List Row) (action : DiskAction) → NamesOnDisk (codes "format", rows) action → FitsOnDisk action
     → (tx_block : ℕ) × (rx_block : ℕ) × HasNumber rows (codes "TX") tx_block × (tx_block < 2 ^ 32)
     × HasNumber rows (codes "RX") rx_block × (rx_block < 2 ^ 32)
-blocks rows Open named fits = cc
 blocks rows (Format disk sci tx_block rx_block block is_over) named fits =
     (tx_block, rx_block, named.3, fits.0, named.4, fits.1)
 blocks rows (Apply disk file) named fits = absurd (omega (arith, ap (λ (t : Text). slice_index t 0) named.0))
 blocks rows (Show disk) named fits = absurd (omega (arith, ap (λ (t : Text). slice_index t 0) named.0))
-blocks rows (Protect disk input output is_all) named fits =
-    absurd (omega (arith, ap (λ (t : Text). slice_index t 0) named.0))
-blocks rows (Validate disk input output is_all is_each) named fits =
-    absurd (omega (arith, ap (λ (t : Text). slice_index t 0) named.0))
-blocks rows (Relay disk controlled common running) named fits =
-    absurd (omega (arith, ap (λ (t : Text). slice_index t 0) named.0))
-blocks rows (Ask path asked is_json) named fits = absurd (omega (arith, ap (λ (t : Text). slice_index t 0) named.0))
-blocks rows (Key is_long) named fits = absurd (omega (arith, ap (λ (t : Text). slice_index t 0) named.0))
-blocks rows (Inspect input) named fits = absurd (omega (arith, ap (λ (t : Text). slice_index t 0) named.0))
-blocks rows (Check file disk) named fits = absurd (omega (arith, ap (λ (t : Text). slice_index t 0) named.0))
-blocks rows (Plan file end stage) named fits = absurd (omega (arith, ap (λ (t : Text). slice_index t 0) named.0))
-blocks rows (Examine disk is_json) named fits = absurd (omega (arith, ap (λ (t : Text). slice_index t 0) named.0))
-blocks rows About named fits = absurd (omega (arith, ap (λ (t : Text). slice_index t 0) named))
 
 -- ---- what `relay` is given
 
 -- it is a relay
-pub relay_of : (rows : List Row) (action : Action) → Names (Some (codes "relay", rows)) action → FitsNumbers action
+pub relay_of : (rows : List Row) (action : FrameAction) → NamesOnFrames (codes "relay", rows) action
+    → FitsOnFrames action
     → (disk : Bor Text) × (controlled : WireEnds) × (common : WireEnds) × (running : Running)
-    × Names (Some (codes "relay", rows)) (Relay disk controlled common running) × FitsPace running.pace
-relay_of rows Open named fits = cc
-relay_of rows (Format disk sci tx_block rx_block block is_over) named fits =
-    absurd (omega (arith, ap (λ (t : Text). slice_index t 0) named.0))
-relay_of rows (Apply disk file) named fits = absurd (omega (arith, ap (λ (t : Text). slice_index t 0) named.0))
-relay_of rows (Show disk) named fits = absurd (omega (arith, ap (λ (t : Text). slice_index t 0) named.0))
-relay_of rows (Protect disk input output is_all) named fits =
-    absurd (omega (arith, ap (λ (t : Text). slice_index t 0) named.0))
-relay_of rows (Validate disk input output is_all is_each) named fits =
-    absurd (omega (arith, ap (λ (t : Text). slice_index t 0) named.0))
+    × NamesOnFrames (codes "relay", rows) (Relay disk controlled common running) × FitsPace running.pace
+relay_of rows (Protect disk input output is_all) named fits = absurd (omega (arith, ap (λ (t : Text). slice_index t 0) named.0))
+relay_of rows (Validate disk input output is_all is_each) named fits = absurd (omega (arith, ap (λ (t : Text). slice_index t 0) named.0))
 relay_of rows (Relay disk controlled common running) named fits = (disk, controlled, common, running, named, fits)
-relay_of rows (Ask path asked is_json) named fits = absurd (omega (arith, ap (λ (t : Text). slice_index t 0) named.0))
-relay_of rows (Key is_long) named fits = absurd (omega (arith, ap (λ (t : Text). slice_index t 0) named.0))
-relay_of rows (Inspect input) named fits = absurd (omega (arith, ap (λ (t : Text). slice_index t 0) named.0))
-relay_of rows (Check file disk) named fits = absurd (omega (arith, ap (λ (t : Text). slice_index t 0) named.0))
-relay_of rows (Plan file end stage) named fits = absurd (omega (arith, ap (λ (t : Text). slice_index t 0) named.0))
-relay_of rows (Examine disk is_json) named fits = absurd (omega (arith, ap (λ (t : Text). slice_index t 0) named.0))
-relay_of rows About named fits = absurd (omega (arith, ap (λ (t : Text). slice_index t 0) named))
 
 -- ---- what `ask` is given
 
 -- its question is there, and whether JSON is wanted of a report
-pub question_of : (rows : List Row) (action : Action) → Names (Some (codes "ask", rows)) action
+pub question_of : (rows : List Row) (action : ToolAction) → NamesTool (codes "ask", rows) action
     → (asked : Question) × HasQuestion rows asked × (is_json : Bool) × IsFlagged rows (codes "json") is_json
     × (is_json ≡ true → is_report asked ≡ true)
-question_of rows Open named = cc
-question_of rows (Format disk sci tx_block rx_block block is_over) named =
-    absurd (omega (arith, ap (λ (t : Text). slice_index t 0) named.0))
-question_of rows (Apply disk file) named = absurd (omega (arith, ap (λ (t : Text). slice_index t 1) named.0))
-question_of rows (Show disk) named = absurd (omega (arith, ap (λ (t : Text). slice_index t 0) named.0))
-question_of rows (Protect disk input output is_all) named =
-    absurd (omega (arith, ap (λ (t : Text). slice_index t 0) named.0))
-question_of rows (Validate disk input output is_all is_each) named =
-    absurd (omega (arith, ap (λ (t : Text). slice_index t 0) named.0))
-question_of rows (Relay disk controlled common running) named =
-    absurd (omega (arith, ap (λ (t : Text). slice_index t 0) named.0))
 question_of rows (Ask path asked is_json) named = (asked, named.2, is_json, named.3, named.4)
 question_of rows (Key is_long) named = absurd (omega (arith, ap (λ (t : Text). slice_index t 0) named.0))
 question_of rows (Inspect input) named = absurd (omega (arith, ap (λ (t : Text). slice_index t 0) named.0))
@@ -268,8 +236,8 @@ format-named words passes =
     let tx_fits : tx_block < 2 ^ 32 = omega (arith, tx_in.3) in
     let rx_fits : rx_block < 2 ^ 32 = omega (arith, rx_in.3) in
     let rows = rows_after (shape_at 1).rules [] words in inr (
-      Format (text_of disk.0) (text_of sci.0) tx_block rx_block (option_map text_of (first_of (codes "block") rows))
-          (is_flagged rows (codes "over")),
+      OnDisk (Format (text_of disk.0) (text_of sci.0) tx_block rx_block (option_map text_of (first_of (codes "block") rows))
+          (is_flagged rows (codes "over"))),
       (
         refl,
         disk.1,
@@ -293,7 +261,7 @@ apply-named words passes =
     given (shape_at 2) words (with_index 1 (filled (value_rule (codes "DISK")))) rules refl passes refl refl in
     let file =
     given (shape_at 2) words (with_index 2 (filled (value_rule (codes "FILE")))) rules refl passes refl refl in
-    inr (Apply (text_of disk.0) (text_of file.0), (refl, disk.1, file.1), tt)
+    inr (OnDisk (Apply (text_of disk.0) (text_of file.0)), (refl, disk.1, file.1), tt)
 
 show-named : IsNamed (shape_at 3)
 unfolding clap_on_literals
@@ -304,7 +272,7 @@ show-named words passes =
     } in
     let disk =
     given (shape_at 3) words (with_index 1 (filled (value_rule (codes "DISK")))) rules refl passes refl refl in
-    inr (Show (text_of disk.0), (refl, disk.1), tt)
+    inr (OnDisk (Show (text_of disk.0)), (refl, disk.1), tt)
 
 protect-named : IsNamed (shape_at 4)
 unfolding clap_on_literals
@@ -324,7 +292,7 @@ protect-named words passes =
     given (shape_at 4) words (with_index 3 (filled (value_rule (codes "OUTPUT")))) rules refl passes refl refl in
     let rows = rows_after (shape_at 4).rules [] words in
     inr (
-      Protect (text_of disk.0) (text_of input.0) (text_of output.0) (is_flagged rows (codes "all")),
+      OnFrames (Protect (text_of disk.0) (text_of input.0) (text_of output.0) (is_flagged rows (codes "all"))),
       (refl, disk.1, input.1, output.1, flagged rows (codes "all")),
       tt,
     )
@@ -350,8 +318,8 @@ validate-named words passes =
     given (shape_at 5) words (with_index 3 (filled (value_rule (codes "OUTPUT")))) rules refl passes refl refl in
     let rows = rows_after (shape_at 5).rules [] words in
     inr (
-      Validate (text_of disk.0) (text_of input.0) (text_of output.0) (is_flagged rows (codes "all"))
-          (is_flagged rows (codes "each")),
+      OnFrames (Validate (text_of disk.0) (text_of input.0) (text_of output.0) (is_flagged rows (codes "all"))
+          (is_flagged rows (codes "each"))),
       (refl, disk.1, input.1, output.1, flagged rows (codes "all"), flagged rows (codes "each")),
       tt,
     )
@@ -454,13 +422,13 @@ relay-named words passes =
     elim (paced rows count limit) [
       | inl none ↦ inl (inl (refl, none.0, none.1))
       | inr (pace, has, fits) ↦ inr (
-        Relay (text_of disk.0) (record { own = text_of own_1.0; peer = text_of peer_1.0 })
+        OnFrames (Relay (text_of disk.0) (record { own = text_of own_1.0; peer = text_of peer_1.0 })
             (record { own = text_of own_2.0; peer = text_of peer_2.0 }) (record {
               pace = pace;
               buffer = room.0;
               control = option_map text_of (first_of (codes "control") rows);
               metrics = option_map text_of (first_of (codes "metrics") rows);
-            }),
+            })),
         (
           refl,
           disk.1,
@@ -556,7 +524,7 @@ form rows path there asked has = go (is_flagged rows (codes "json")) (is_report 
     go : (is_json reports : Bool) → is_flagged rows (codes "json") ≡ is_json → is_report asked ≡ reports
         → IsRead (Some (codes "ask", rows))
     go false reports used e = inr (
-      Ask (text_of path) asked false,
+      Tool (Ask (text_of path) asked false),
       (
         refl,
         there,
@@ -567,7 +535,7 @@ form rows path there asked has = go (is_flagged rows (codes "json")) (is_report 
       tt,
     )
     go true true used e = inr (
-      Ask (text_of path) asked true,
+      Tool (Ask (text_of path) asked true),
       (
         refl,
         there,
@@ -607,7 +575,7 @@ key-named : IsNamed (shape_at 8)
 unfolding clap_on_literals
 key-named words passes =
     let rows = rows_after (shape_at 8).rules [] words in
-    inr (Key (is_flagged rows (codes "long")), (refl, flagged rows (codes "long")), tt)
+    inr (Tool (Key (is_flagged rows (codes "long"))), (refl, flagged rows (codes "long")), tt)
 
 inspect-named : IsNamed (shape_at 9)
 unfolding clap_on_literals
@@ -618,7 +586,7 @@ inspect-named words passes =
     } in
     let input =
     given (shape_at 9) words (with_index 1 (filled (value_rule (codes "INPUT")))) rules refl passes refl refl in
-    inr (Inspect (text_of input.0), (refl, input.1), tt)
+    inr (Tool (Inspect (text_of input.0)), (refl, input.1), tt)
 
 check-named : IsNamed (shape_at 10)
 unfolding clap_on_literals
@@ -630,7 +598,7 @@ check-named words passes =
     let file =
     given (shape_at 10) words (with_index 1 (filled (value_rule (codes "FILE")))) rules refl passes refl refl in
     let rows = rows_after (shape_at 10).rules [] words in inr (
-      Check (text_of file.0) (option_map text_of (first_of (codes "DISK") rows)),
+      Tool (Check (text_of file.0) (option_map text_of (first_of (codes "DISK") rows))),
       (refl, file.1, texts-back (first_of (codes "DISK") rows)),
       tt,
     )
@@ -650,7 +618,7 @@ plan-named words passes =
     given (shape_at 11) words (with_index 3 (filled (value_rule (codes "STAGE")))) rules refl passes refl refl in
     let rows = rows_after (shape_at 11).rules [] words in
     elim (plans rows end.0 stage.0 end.1 stage.1) [
-      | inl (side, stage_is, has) ↦ inr (Plan (text_of file.0) side stage_is, (refl, file.1, has), tt)
+      | inl (side, stage_is, has) ↦ inr (Tool (Plan (text_of file.0) side stage_is), (refl, file.1, has), tt)
       | inr none ↦ inl (inr (inr (inr (refl, none))))
     ]
 
@@ -664,13 +632,13 @@ examine-named words passes =
     let disk =
     given (shape_at 12) words (with_index 1 (filled (value_rule (codes "DISK")))) rules refl passes refl refl in
     let rows = rows_after (shape_at 12).rules [] words in inr (
-      Examine (text_of disk.0) (is_flagged rows (codes "json")),
+      Tool (Examine (text_of disk.0) (is_flagged rows (codes "json"))),
       (refl, disk.1, flagged rows (codes "json")),
       tt,
     )
 
 about-named : IsNamed (shape_at 13)
-about-named words passes = inr (About, refl, tt)
+about-named words passes = inr (Tool About, refl, tt)
 
 -- ---- the words of a whole command line
 

@@ -17,8 +17,13 @@ use Rattle.macs_cli.specs.Waits.{IsRoom, IsWaitLimit}
 use Rattle.macs_cli.specs.declared.words.action.UsageFault.{UsageFault}
 use Rattle.macs_cli.specs.declared.words.action.UsageFault.TheVariants.{Usage, Memory}
 use Rattle.macs_cli.specs.declared.words.action.Action.{Action}
-use Rattle.macs_cli.specs.declared.words.action.Action.TheVariants.{Open, Format, Apply, Show, Protect, Validate, Relay}
-use Rattle.macs_cli.specs.declared.words.action.Action.TheVariants.{Ask, Key, Inspect, Check, Plan, Examine, About}
+use Rattle.macs_cli.specs.declared.words.action.Action.TheVariants.{Open, OnDisk, OnFrames, Tool}
+use Rattle.macs_cli.specs.declared.words.action.DiskAction.{DiskAction}
+use Rattle.macs_cli.specs.declared.words.action.DiskAction.TheVariants.{Format, Apply, Show}
+use Rattle.macs_cli.specs.declared.words.action.FrameAction.{FrameAction}
+use Rattle.macs_cli.specs.declared.words.action.FrameAction.TheVariants.{Protect, Validate, Relay}
+use Rattle.macs_cli.specs.declared.words.action.ToolAction.{ToolAction}
+use Rattle.macs_cli.specs.declared.words.action.ToolAction.TheVariants.{Ask, Key, Inspect, Check, Plan, Examine, About}
 use Rattle.macs_cli.specs.declared.words.plan_words.PlanEnd.{PlanEnd}
 use Rattle.macs_cli.specs.declared.words.plan_words.PlanEnd.TheVariants as plan_end
 use Rattle.macs_cli.specs.declared.words.plan_words.PlanStage.{PlanStage}
@@ -215,42 +220,54 @@ HasPlan values end stage = HasText values (codes "END") (end_word end)
 abbrev pub IsFlagged : List Row → Text → Bool → Type 0
 IsFlagged values name is = (is ≡ true) ↔ HasText values name (codes "true")
 
--- the subcommand with its values names the action; no subcommand is `open`
-abbrev pub Names : Option (Text × List Row) → Action → Type 0
-Names None action = action ≡ Open
-Names (Some found) Open = found.0 ≡ codes "open"
-Names (Some found) (Format disk sci tx_block rx_block block is_over) =
+-- a subcommand with its values names an action on an endpoint, without frames
+abbrev pub NamesOnDisk : Text × List Row → DiskAction → Type 0
+NamesOnDisk found (Format disk sci tx_block rx_block block is_over) =
     (found.0 ≡ codes "format") × HasText found.1 (codes "DISK") disk.now × HasText found.1 (codes "SCI") sci.now
     × HasNumber found.1 (codes "TX") tx_block × HasNumber found.1 (codes "RX") rx_block
     × MayHaveText found.1 (codes "block") block × IsFlagged found.1 (codes "over") is_over
-Names (Some found) (Apply disk file) =
+NamesOnDisk found (Apply disk file) =
     (found.0 ≡ codes "apply") × HasText found.1 (codes "DISK") disk.now × HasText found.1 (codes "FILE") file.now
-Names (Some found) (Show disk) = (found.0 ≡ codes "show") × HasText found.1 (codes "DISK") disk.now
-Names (Some found) (Protect disk input output is_all) =
+NamesOnDisk found (Show disk) = (found.0 ≡ codes "show") × HasText found.1 (codes "DISK") disk.now
+
+-- one that gives frames to an endpoint
+abbrev pub NamesOnFrames : Text × List Row → FrameAction → Type 0
+NamesOnFrames found (Protect disk input output is_all) =
     (found.0 ≡ codes "protect") × HasText found.1 (codes "DISK") disk.now
     × HasText found.1 (codes "INPUT") input.now × HasText found.1 (codes "OUTPUT") output.now
     × IsFlagged found.1 (codes "all") is_all
-Names (Some found) (Validate disk input output is_all is_each) =
+NamesOnFrames found (Validate disk input output is_all is_each) =
     (found.0 ≡ codes "validate") × HasText found.1 (codes "DISK") disk.now
     × HasText found.1 (codes "INPUT") input.now × HasText found.1 (codes "OUTPUT") output.now
     × IsFlagged found.1 (codes "all") is_all × IsFlagged found.1 (codes "each") is_each
-Names (Some found) (Relay disk controlled common running) =
+NamesOnFrames found (Relay disk controlled common running) =
     (found.0 ≡ codes "relay") × HasText found.1 (codes "DISK") disk.now
     × HasText found.1 (codes "OWN1") controlled.own.now × HasText found.1 (codes "PEER1") controlled.peer.now
     × HasText found.1 (codes "OWN2") common.own.now × HasText found.1 (codes "PEER2") common.peer.now
     × HasPace found.1 running.pace × MayHaveRoom found.1 (codes "buffer") running.buffer
     × MayHaveText found.1 (codes "control") running.control × MayHaveText found.1 (codes "metrics") running.metrics
-Names (Some found) (Ask path asked is_json) = (found.0 ≡ codes "ask") × HasText found.1 (codes "PATH") path.now
+
+-- one that changes no disk
+abbrev pub NamesTool : Text × List Row → ToolAction → Type 0
+NamesTool found (Ask path asked is_json) = (found.0 ≡ codes "ask") × HasText found.1 (codes "PATH") path.now
     × HasQuestion found.1 asked × IsFlagged found.1 (codes "json") is_json × (is_json ≡ true → is_report asked ≡ true)
-Names (Some found) (Key is_long) = (found.0 ≡ codes "key") × IsFlagged found.1 (codes "long") is_long
-Names (Some found) (Inspect input) = (found.0 ≡ codes "inspect") × HasText found.1 (codes "INPUT") input.now
-Names (Some found) (Check file disk) =
+NamesTool found (Key is_long) = (found.0 ≡ codes "key") × IsFlagged found.1 (codes "long") is_long
+NamesTool found (Inspect input) = (found.0 ≡ codes "inspect") × HasText found.1 (codes "INPUT") input.now
+NamesTool found (Check file disk) =
     (found.0 ≡ codes "check") × HasText found.1 (codes "FILE") file.now × MayHaveText found.1 (codes "DISK") disk
-Names (Some found) (Plan file end stage) =
+NamesTool found (Plan file end stage) =
     (found.0 ≡ codes "plan") × HasText found.1 (codes "FILE") file.now × HasPlan found.1 end stage
-Names (Some found) (Examine disk is_json) = (found.0 ≡ codes "examine") × HasText found.1 (codes "DISK") disk.now
+NamesTool found (Examine disk is_json) = (found.0 ≡ codes "examine") × HasText found.1 (codes "DISK") disk.now
     × IsFlagged found.1 (codes "json") is_json
-Names (Some found) About = found.0 ≡ codes "about"
+NamesTool found About = found.0 ≡ codes "about"
+
+-- the subcommand with its values names the action; no subcommand is `open`
+abbrev pub Names : Option (Text × List Row) → Action → Type 0
+Names None action = action ≡ Open
+Names (Some found) Open = found.0 ≡ codes "open"
+Names (Some found) (OnDisk action) = NamesOnDisk found action
+Names (Some found) (OnFrames action) = NamesOnFrames found action
+Names (Some found) (Tool action) = NamesTool found action
 
 -- a relay with neither turns nor a wait: it names no action
 abbrev pub LacksPace : Option (Text × List Row) → Type 0
@@ -289,9 +306,17 @@ FitsPace (Sleepless turns) = turns < 2 ^ 64
 FitsPace (Waiting limit turns) = IfSome turns (λ count. count < 2 ^ 64)
 
 -- the numbers of the action, if it has any, fit in their types
+abbrev pub FitsOnDisk : DiskAction → Type 0
+FitsOnDisk (Format disk sci tx_block rx_block block is_over) = (tx_block < 2 ^ 32) × (rx_block < 2 ^ 32)
+FitsOnDisk action = ⊤
+
+abbrev pub FitsOnFrames : FrameAction → Type 0
+FitsOnFrames (Relay disk controlled common running) = FitsPace running.pace
+FitsOnFrames action = ⊤
+
 abbrev pub FitsNumbers : Action → Type 0
-FitsNumbers (Format disk sci tx_block rx_block block is_over) = (tx_block < 2 ^ 32) × (rx_block < 2 ^ 32)
-FitsNumbers (Relay disk controlled common running) = FitsPace running.pace
+FitsNumbers (OnDisk action) = FitsOnDisk action
+FitsNumbers (OnFrames action) = FitsOnFrames action
 FitsNumbers action = ⊤
 
 -- no action is named whose numbers fit in their types

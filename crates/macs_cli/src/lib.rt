@@ -32,6 +32,6 @@ pub use stream::{PrintFailed, Stream, WriterStream};
 pub use values::{Given, ValueFault, given_by};
 pub use whole_writes::WholeWrites;
 pub use words::{
-    Action, Milliseconds, Pace, PlanEnd, PlanStage, Question, Running, Subcommand, Topic,
-    UsageFault, WireEnds, action_of, printable, topic_of,
+    Action, DiskAction, FrameAction, Milliseconds, Pace, PlanEnd, PlanStage, Question, Running,
+    Subcommand, ToolAction, Topic, UsageFault, WireEnds, action_of, printable, topic_of,
 };

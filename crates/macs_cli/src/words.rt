@@ -17,7 +17,7 @@ mod reading;
 mod subcommand_words;
 mod usage;
 
-pub use action::{Action, Question, UsageFault, WireEnds};
+pub use action::{Action, DiskAction, FrameAction, Question, ToolAction, UsageFault, WireEnds};
 pub use help::{Subcommand, Topic, topic_of};
 pub use pace::{Milliseconds, Pace, Running};
 pub use plain_text::printable;

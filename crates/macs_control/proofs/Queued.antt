@@ -1,6 +1,6 @@
 -- Which commands wait while an attended relay runs: one that is taken comes last, and the first one is answered.
-use Rattle.std.proofs.Common.{◌≡◌, ◌++◌, inl, inr, ℕ, zero, suc, Bool, true, List, [], ◌∷◌, map, Result, Ok, Err}
-use Rattle.std.proofs.Common.{refl, sym, ap, ◌∙◌, subst, append-nil}
+use Rattle.std.proofs.Common.{◌≡◌, ◌++◌, inl, inr, ℕ, zero, suc, Bool, true, false, List, [], ◌∷◌, map, Result, Ok}
+use Rattle.std.proofs.Common.{Err, refl, sym, ap, ◌∙◌, subst, append-nil}
 use Rattle.macs_disk.specs.Disk.{Disk}
 use Rattle.macs_endpoint.specs.Value.{EndpointValue}
 use Rattle.macs_endpoint.specs.declared.fault.RefillFault.{RefillFault}
@@ -10,11 +10,12 @@ use Rattle.macs_endpoint.specs.declared.progress.Step.{Step as Progress}
 use Rattle.macs_endpoint.specs.declared.progress.Step.TheVariants.{Done, Idle, Reserved, Worked}
 use Rattle.macs_endpoint.specs.declared.queue.Waiting.{Waiting}
 use Rattle.macs_edge.specs.Attending.{Attends, AttendsTurns, Does, Obeys, TakesAllAttended, answers_of, failed_of}
+use Rattle.macs_edge.specs.Attending.{rests_after}
 use Rattle.macs_endpoint.specs.State.{Advanced, Advances}
 use Rattle.macs_edge.specs.Commanding.{Ended, done_by, ticket_in, tickets_of}
 use Rattle.macs_edge.specs.Relaying.{Relay, TakesTurn, empty_lane}
 use Rattle.macs_edge.specs.declared.attending.DeskEvent.{DeskEvent}
-use Rattle.macs_edge.specs.declared.attending.DeskEvent.TheVariants.{Answered, Took, Wanted}
+use Rattle.macs_edge.specs.declared.attending.DeskEvent.TheVariants.{Answered, Rested, Took, Wanted}
 use Rattle.macs_edge.specs.declared.attending.Order.{Order}
 use Rattle.macs_edge.specs.declared.attending.Order.TheVariants.{Go, Submit, End}
 use Rattle.macs_edge.proofs.AttendedFlows.{Attended, all-turns, obeys, turn-queue}
@@ -36,6 +37,7 @@ Queues waiting (Wanted quiet (Submit command) ∷ Took answer ∷ events) left =
     Queues (with_taken waiting answer) events left
 Queues waiting (Answered ticket end ∷ events) left =
     (more : List ℕ) × (waiting ≡ ticket ∷ more) × Queues more events left
+Queues waiting (Rested ∷ events) left = Queues waiting events left
 Queues waiting (Wanted quiet (Submit command) ∷ events) left = ⊥
 Queues waiting (Took answer ∷ events) left = ⊥
 
@@ -50,12 +52,20 @@ queues-append waiting between left (Wanted quiet (Submit command) ∷ Took answe
     queues-append (with_taken waiting answer) between left events more one two
 queues-append waiting between left (Answered ticket end ∷ events) more (rest, first, one) two =
     (rest, first, queues-append rest between left events more one two)
+queues-append waiting between left (Rested ∷ events) more one two =
+    queues-append waiting between left events more one two
 queues-append waiting between left (Wanted quiet (Submit command) ∷ []) more one two = absurd one
 queues-append waiting between left (Wanted quiet (Submit command) ∷ Wanted again order ∷ events) more one
     two = absurd one
 queues-append waiting between left (Wanted quiet (Submit command) ∷ Answered ticket end ∷ events) more one
     two = absurd one
+queues-append waiting between left (Wanted quiet (Submit command) ∷ Rested ∷ events) more one two = absurd one
 queues-append waiting between left (Took answer ∷ events) more one two = absurd one
+
+-- a rest takes and answers none
+rested-queue : (quiet : Bool) (waiting : List ℕ) → Queues waiting (rests_after quiet) waiting
+rested-queue true waiting = refl
+rested-queue false waiting = refl
 
 -- the commands that wait at the end are answered as failed
 failed-queue : (waiting : List Waiting) → Queues (tickets_of waiting) (failed_of waiting) []
@@ -126,12 +136,17 @@ module _ {D : Type 0} (disk_of : D → Disk) where
   turns-queue (suc turns) old new events quiet out back
       (between, earlier, was_quiet, last, progress, before, (wanted, endpoint, obeyed, turn, is_last), which, is) =
       subst (λ (l : List DeskEvent). Queues (tickets_of old.endpoint.waiting) l (tickets_of new.endpoint.waiting))
-      (sym (is ∙ ap (λ (l : List DeskEvent). earlier ++ l) is_last))
+      (sym is)
+      (queues-append (tickets_of old.endpoint.waiting) (tickets_of new.endpoint.waiting)
+      (tickets_of new.endpoint.waiting) (earlier ++ last) (rests_after quiet)
+      (subst (λ (l : List DeskEvent).
+      Queues (tickets_of old.endpoint.waiting) (earlier ++ l) (tickets_of new.endpoint.waiting)) (sym is_last)
       (queues-append (tickets_of old.endpoint.waiting) (tickets_of between.endpoint.waiting)
       (tickets_of new.endpoint.waiting) earlier (wanted ++ answers_of progress)
       (turns-queue turns old between earlier was_quiet out back before)
       (turn-queues old between new endpoint earlier wanted was_quiet progress
-      (all-turns disk_of turns old between earlier was_quiet out back before) obeyed turn))
+      (all-turns disk_of turns old between earlier was_quiet out back before) obeyed turn)))
+      (rested-queue quiet (tickets_of new.endpoint.waiting)))
 
   ended-queue : (turns : ℕ) (old new : Relay D) (events : List DeskEvent) (answer : Result (Unit {0}) StepFault)
       → old.to_common ≡ empty_lane → old.to_controlled ≡ empty_lane

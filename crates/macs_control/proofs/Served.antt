@@ -13,7 +13,7 @@ use Rattle.macs_edge.specs.Commanding.{Ended, ended_by, tickets_of, tickets_take
 use Rattle.macs_edge.specs.Relaying.{Relay, empty_lane}
 use Rattle.macs_edge.specs.declared.attending.CommandEnd.{CommandEnd}
 use Rattle.macs_edge.specs.declared.attending.DeskEvent.{DeskEvent}
-use Rattle.macs_edge.specs.declared.attending.DeskEvent.TheVariants.{Answered, Took, Wanted}
+use Rattle.macs_edge.specs.declared.attending.DeskEvent.TheVariants.{Answered, Rested, Took, Wanted}
 use Rattle.macs_edge.specs.declared.attending.Order.{Order}
 use Rattle.macs_edge.specs.declared.attending.Order.TheVariants.{Go, Submit, End}
 use Rattle.macs_edge.proofs.AttendedFlows.{attended-flows}
@@ -226,6 +226,17 @@ module _ (events : List DeskEvent) (talks : List (List Talk)) (new : DeskState) 
         waiting = served.waiting;
       }
 
+  after-rested : (talk : List Talk) (old between : DeskState) → SpeaksAt old Rested talk between
+      → Served between events talks new left → Served old (Rested ∷ events) (talk ∷ talks) new left
+  after-rested talk old between (silent, same) served = record {
+    told = served.told;
+    ends = served.ends;
+    said = served.said;
+    clients = ap (λ (l : List Talk). clients_in old.under_way ++ givers (asking_after old.asking l) events talks) silent
+        ∙ ap (λ (d : DeskState). clients_in d.under_way ++ givers d.asking events talks) (sym same) ∙ served.clients;
+    waiting = served.waiting;
+  }
+
 -- a command that was handed in, and what follows it
 after-took : (events : List DeskEvent) (talks : List (List Talk)) (new : DeskState) (left : List ℕ)
     (answer : Result ℕ SubmitFault) (talk : List Talk) (old between : DeskState) → is_full old.under_way ≡ false
@@ -285,6 +296,10 @@ serves (Answered ticket end ∷ events) (talk ∷ talks) old new waiting left he
     speaks.1 ∙ ap (λ (l : List Entry). without l ticket) is ∙ first-gone first others ticket ticket_is in
     after-answered events talks new left ticket end talk old between first others is ticket_is goes speaks
     (serves events talks between new rest left (ap tickets goes ∙ tail) queues more)
+serves (Rested ∷ events) (talk ∷ talks) old new waiting left held queues (between, speaks, more) =
+    after-rested events talks new left talk old between speaks
+    (serves events talks between new waiting left (ap (λ (d : DeskState). tickets d.under_way) speaks.1 ∙ held) queues
+    more)
 serves [] (talk ∷ talks) old new waiting left held queues speaks = absurd speaks
 serves (Wanted quiet Go ∷ events) [] old new waiting left held queues speaks = absurd speaks
 serves (Wanted quiet End ∷ events) [] old new waiting left held queues speaks = absurd speaks
@@ -297,8 +312,11 @@ serves (Wanted quiet (Submit command) ∷ Wanted again order ∷ events) (talk �
     absurd queues
 serves (Wanted quiet (Submit command) ∷ Answered ticket end ∷ events) (talk ∷ talks) old new waiting left held queues
     speaks = absurd queues
+serves (Wanted quiet (Submit command) ∷ Rested ∷ events) (talk ∷ talks) old new waiting left held queues speaks =
+    absurd queues
 serves (Took answer ∷ events) talks old new waiting left held queues speaks = absurd queues
 serves (Answered ticket end ∷ events) [] old new waiting left held queues speaks = absurd speaks
+serves (Rested ∷ events) [] old new waiting left held queues speaks = absurd speaks
 
 -- ---- over a whole relay
 

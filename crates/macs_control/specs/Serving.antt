@@ -4,7 +4,7 @@ use Rattle.std.specs.Prelude.{◌≡◌, ◌++◌, ℕ, Bool, List, [], ◌∷�
 use Rattle.macs_edge.specs.Commanding.{Ended, ended_by, tickets_taken}
 use Rattle.macs_edge.specs.declared.attending.CommandEnd.{CommandEnd}
 use Rattle.macs_edge.specs.declared.attending.DeskEvent.{DeskEvent}
-use Rattle.macs_edge.specs.declared.attending.DeskEvent.TheVariants.{Answered, Took, Wanted}
+use Rattle.macs_edge.specs.declared.attending.DeskEvent.TheVariants.{Answered, Rested, Took, Wanted}
 use Rattle.macs_commands.specs.Talks.{Talk, Heard, Said}
 use Rattle.macs_commands.specs.declared.requests.clients.Client.{Client}
 use Rattle.macs_control.specs.Listening.{LooksIf, Reports, said_of_ending, said_of_taking, under_way_after}
@@ -28,6 +28,7 @@ SpeaksAt old (Took answer) talk new = (talk ≡ said_of_taking old.asking answer
     × (new.under_way ≡ under_way_after old.under_way old.asking answer) × (new.asking ≡ old.asking)
 SpeaksAt old (Answered ticket end) talk new = (talk ≡ said_of_ending old.under_way ticket end)
     × (new.under_way ≡ without old.under_way ticket) × (new.asking ≡ old.asking)
+SpeaksAt old Rested talk new = (talk ≡ []) × (new ≡ old)
 
 -- the same at each of several events, one after another
 abbrev pub Speaks : DeskState → List DeskEvent → List (List Talk) → DeskState → Type 0

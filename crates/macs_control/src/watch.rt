@@ -1,6 +1,6 @@
-//! What an attended relay sleeps on.
+//! What a relay sleeps on.
 
-ghost use Rattle.std.specs.Prelude.{◌≡◌};
+ghost use Rattle.std.specs.Prelude.{◌≡◌, pos};
 ghost use Rattle.macs_control.specs.Watching.{asks};
 
 use libc::net::{POLLIN, poll};
@@ -10,11 +10,47 @@ use std::os::fd::RawFd;
 /// The number in place of a missing descriptor: the system ignores it.
 pub(crate) const NO_SOCKET: RawFd = -1;
 
+/// Asks whether a socket is readable.
+fn readable(socket: RawFd) -> pollfd
+    ensures { result ≡ asks socket }
+{
+    pollfd {
+        fd: socket,
+        events: POLLIN,
+        revents: 0,
+    }
+}
+
+/// The longest sleep in milliseconds, in the system's type.
+fn timeout(milliseconds: u16) -> i32
+    ensures { result ≡ pos milliseconds }
+{
+    i32::from(milliseconds)
+}
+
 /// The sockets of both wires.
 #[derive(Clone, Copy)]
 pub struct Wires {
     pub controlled: RawFd,
     pub common: RawFd,
+}
+
+impl Wires {
+    ghost use Rattle.std.specs.Prelude.{◌≡◌, ◌∷◌, []};
+    ghost use Rattle.macs_control.specs.Watching.{asks};
+
+    /// What the system is asked, for both sockets.
+    fn asked(&self) -> [pollfd; 2]
+        ensures { result ≡ asks self.now.controlled ∷ asks self.now.common ∷ [] }
+    {
+        [readable(self.controlled), readable(self.common)]
+    }
+
+    /// Sleeps until one of them is readable, for at most this many milliseconds. What has already
+    /// arrived ends the sleep at once (POSIX.1-2017, `poll`). If the call fails there is no sleep.
+    pub fn sleep(&self, milliseconds: u16) {
+        let _ = poll(&mut self.asked(), timeout(milliseconds));
+    }
 }
 
 /// What is watched: the sockets of both wires, the listening socket, and those of four clients.
@@ -26,17 +62,6 @@ pub struct Watch {
     pub second: RawFd,
     pub third: RawFd,
     pub fourth: RawFd,
-}
-
-/// Asks whether a socket is readable.
-fn readable(socket: RawFd) -> pollfd
-    ensures { result ≡ asks socket }
-{
-    pollfd {
-        fd: socket,
-        events: POLLIN,
-        revents: 0,
-    }
 }
 
 /// Whether one of these is ready, or has failed.
@@ -63,13 +88,11 @@ impl Watch {
         ]
     }
 
-    /// Sleeps until one of them is readable, for at most this many milliseconds, and returns
-    /// whether one other than a wire is. What has already arrived ends the sleep at once
-    /// (POSIX.1-2017, `poll`). If the call fails there is no sleep, and whether one is readable is
-    /// not known.
+    /// Sleeps until one of them is readable, as `Wires::sleep` does. Returns whether one other than a
+    /// wire is, or the call failed.
     pub fn sleep(&self, milliseconds: u16) -> bool {
         let mut asked = self.asked();
-        let found = poll(&mut asked, i32::from(milliseconds));
+        let found = poll(&mut asked, timeout(milliseconds));
         found < 0 || is_any_found(&asked[2..])
     }
 }

@@ -1,29 +1,41 @@
 -- An attended turn after others, and its parts.
-use Rattle.std.proofs.Common.{◌≡◌, ◌+◌, ◌++◌, ◌↔◌, ℕ, Bool, false, IsTrue, List, [], ◌∷◌, Option, Some, None, Result}
-use Rattle.std.proofs.Common.{Ok, refl, sym, ap, ◌∙◌, subst, add-one, add-zero, add_assoc}
+use Rattle.std.proofs.Common.{◌≡◌, ◌+◌, ◌++◌, ◌↔◌, ◌<◌, ℕ, Bool, false, IsTrue, List, [], ◌∷◌, Result, length, take}
+use Rattle.std.proofs.Common.{get_or, refl, sym, ap, ◌∙◌, subst, add-one}
+use Rattle.std.proofs.lemmas.List.{map_more}
 use Rattle.macs_disk.specs.Disk.{Disk}
 use Rattle.macs_endpoint.specs.Value.{EndpointValue}
 use Rattle.macs_endpoint.specs.declared.fault.StepFault.{StepFault}
 use Rattle.macs_endpoint.specs.declared.progress.Step.{Step as Progress}
-use Rattle.macs_edge.specs.Attending.{AttendsTurns, Does, Obeys, TakesAllAttended, TakesAttended, goes_on, with_events}
+use Rattle.macs_endpoint.specs.declared.queue.Waiting.{Waiting}
+use Rattle.macs_edge.specs.Attending.{AttendsTurns, Does, HearsAll, Obeys, TakesAllAttended, TakesAttended, failed_of}
+use Rattle.macs_edge.specs.Attending.{goes_on, rests_after}
+use Rattle.macs_edge.specs.declared.attending.CommandEnd.TheVariants.{Failed}
 use Rattle.macs_edge.specs.declared.attending.DeskEvent.{DeskEvent}
-use Rattle.macs_edge.specs.declared.attending.DeskEvent.TheVariants.{Wanted}
-use Rattle.macs_edge.specs.Relaying.{LaneValue, Relay, TakesTurn, empty_lane, relay_of}
-use Rattle.macs_edge.specs.Resting.{IsQuiet, TakesTurnsResting, one_if, with_sleeps}
+use Rattle.macs_edge.specs.declared.attending.DeskEvent.TheVariants.{Answered, Wanted}
+use Rattle.macs_edge.specs.Relaying.{LaneValue, Relay, empty_lane, relay_of}
+use Rattle.macs_edge.specs.Resting.{IsQuiet}
 use Rattle.macs_edge.specs.Wires.{WireState}
 use Rattle.macs_edge.specs.declared.attending.Order.{Order}
 use Rattle.macs_edge.specs.declared.attending.Order.TheVariants.{Go, Submit, End}
-use Rattle.macs_edge.proofs.Flowing.{gained-more, gained-none}
 
--- ---- events that are noted
+-- ---- what a desk hears
 
-pub events-none : (noted : Option (List DeskEvent)) → noted ≡ with_events noted []
-events-none noted = gained-none noted
+module _ {K : Type 0} (hears : K → DeskEvent → K → Type 0) where
+  pub hears-append : (a b c : K) (events more : List DeskEvent) → HearsAll hears a events b → HearsAll hears b more c
+      → HearsAll hears a (events ++ more) c
+  hears-append a b c [] more same heard = subst (λ (k : K). HearsAll hears k more c) same heard
+  hears-append a b c (event ∷ events) more (between, first, rest) heard =
+      (between, first, hears-append between b c events more rest heard)
 
-pub events-more : (a b c : Option (List DeskEvent)) (events more : List DeskEvent) → b ≡ with_events a events
-    → c ≡ with_events b more
-    → c ≡ with_events a (events ++ more)
-events-more a b c events more one two = gained-more a b c events more one two
+  -- of the pending commands one more is answered as failed
+  pub hears-failed : (a b c : K) (waiting : List Waiting) (i : ℕ) (next : Waiting) → i < length waiting
+      → next ≡ get_or waiting i next → HearsAll hears a (failed_of (take i waiting)) b
+      → hears b (Answered next.ticket Failed) c → HearsAll hears a (failed_of (take (i + 1) waiting)) c
+  hears-failed a b c waiting i next within is heard last =
+      let event = λ (w : Waiting). Answered w.ticket Failed in
+      subst (λ (l : List DeskEvent). HearsAll hears a l c)
+      (ap (λ (w : Waiting). failed_of (take i waiting) ++ event w ∷ []) is ∙ sym (map_more event waiting i next within))
+      (hears-append a b c (failed_of (take i waiting)) (event next ∷ []) heard (c, last, refl))
 
 -- ---- turns
 
@@ -31,9 +43,10 @@ pub attended-more : {D : Type 0} (disk_of : D → Disk) (n : ℕ) (old between n
     (earlier last : List DeskEvent) (was_quiet quiet : Bool) (progress : Progress)
     → TakesAllAttended disk_of n old earlier was_quiet between
     → TakesAttended disk_of was_quiet between last progress new
-    → (IsTrue quiet ↔ IsQuiet progress between new) → TakesAllAttended disk_of (n + 1) old (earlier ++ last) quiet new
+    → (IsTrue quiet ↔ IsQuiet progress between new)
+    → TakesAllAttended disk_of (n + 1) old (earlier ++ last ++ rests_after quiet) quiet new
 attended-more disk_of n old between new earlier last was_quiet quiet progress before turn is =
-    subst (λ (k : ℕ). TakesAllAttended disk_of k old (earlier ++ last) quiet new) (sym (add-one n))
+    subst (λ (k : ℕ). TakesAllAttended disk_of k old (earlier ++ last ++ rests_after quiet) quiet new) (sym (add-one n))
     (between, earlier, was_quiet, last, progress, before, turn, is, refl)
 
 -- turns of a relay whose ways were empty at first
@@ -49,7 +62,7 @@ attends-begun disk_of turns endpoint controlled common out back events answer ne
     (subst (λ (l : LaneValue). AttendsTurns disk_of turns (relay_of endpoint controlled common out l) events answer
     new) is_back took)
 
--- what the desk wants where no turn follows is the end
+-- the order after which no turn follows is the end
 end-of : {D : Type 0} (disk_of : D → Disk) (quiet : Bool) (order : Order) (old new : EndpointValue D)
     (told : List DeskEvent) → false ≡ goes_on order
     → Does disk_of order old told new → (Wanted quiet order ∷ told ≡ Wanted quiet End ∷ []) × (new ≡ old)
@@ -61,21 +74,3 @@ pub obeys-end : {D : Type 0} (disk_of : D → Disk) (quiet : Bool) (old new : En
     → Obeys disk_of quiet old events false new → (events ≡ Wanted quiet End ∷ []) × (new ≡ old)
 obeys-end disk_of quiet old new events (order, told, which, does, is) =
     let ends = end-of disk_of quiet order old new told which does in (is ∙ ends.0, ends.1)
-
--- ---- rest
-
-pub sleeps-none : (slept : Option ℕ) → slept ≡ with_sleeps slept 0
-sleeps-none None = refl
-sleeps-none (Some n) = ap Some (sym (add-zero n))
-
-pub sleeps-more : (a b c : Option ℕ) (n m : ℕ) → b ≡ with_sleeps a n → c ≡ with_sleeps b m → c ≡ with_sleeps a (n + m)
-sleeps-more None b c n m one two = two ∙ ap (λ (o : Option ℕ). with_sleeps o m) one
-sleeps-more (Some k) b c n m one two = two ∙ ap (λ (o : Option ℕ). with_sleeps o m) one ∙ ap Some (add_assoc k n m)
-
-pub resting-more : {D : Type 0} (disk_of : D → Disk) (n : ℕ) (old between new : Relay D) (before : ℕ)
-    (progress : Progress) (quiet : Bool)
-    → TakesTurnsResting disk_of n old before between → TakesTurn disk_of (Ok progress) between new
-    → (IsTrue quiet ↔ IsQuiet progress between new) → TakesTurnsResting disk_of (n + 1) old (before + one_if quiet) new
-resting-more disk_of n old between new before progress quiet earlier last is =
-    subst (λ (k : ℕ). TakesTurnsResting disk_of k old (before + one_if quiet) new) (sym (add-one n))
-    (between, before, progress, quiet, earlier, last, is, refl)

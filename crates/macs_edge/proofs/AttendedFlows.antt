@@ -1,5 +1,5 @@
 -- What goes each way of a relay that is attended, and what is reported to its desk.
-use Rattle.std.proofs.Common.{◌≡◌, ◌++◌, inl, inr, ℕ, zero, suc, Bool, true, List, [], ◌∷◌, map, Result, Ok, Err}
+use Rattle.std.proofs.Common.{◌≡◌, ◌++◌, inl, inr, ℕ, zero, suc, Bool, true, false, List, [], ◌∷◌, map, Result, Ok, Err}
 use Rattle.std.proofs.Common.{refl, sym, ap, ◌∙◌, subst, append-nil, append_assoc}
 use Rattle.std.specs.Prelude.{flat_map}
 use Rattle.std.proofs.lemmas.List.Concat.{flat_map-append}
@@ -11,9 +11,9 @@ use Rattle.macs_endpoint.specs.declared.fault.RefillFault.{RefillFault}
 use Rattle.macs_endpoint.specs.declared.fault.StepFault.{StepFault}
 use Rattle.macs_endpoint.specs.declared.fault.SubmitFault.{SubmitFault}
 use Rattle.macs_endpoint.specs.declared.progress.Step.{Step as Progress}
-use Rattle.macs_edge.specs.Attending.{Attends, AttendsTurns, Obeys, TakesAllAttended, failed_of}
+use Rattle.macs_edge.specs.Attending.{Attends, AttendsTurns, Obeys, TakesAllAttended, failed_of, rests_after}
 use Rattle.macs_edge.specs.declared.attending.DeskEvent.{DeskEvent}
-use Rattle.macs_edge.specs.declared.attending.DeskEvent.TheVariants.{Wanted}
+use Rattle.macs_edge.specs.declared.attending.DeskEvent.TheVariants.{Rested, Wanted}
 use Rattle.macs_edge.specs.Commanding.{Ended, IsAttendedFlow, all_failed, answered_to, done_by, ended_by}
 use Rattle.macs_edge.specs.Commanding.{handed_in_by, submitted_by, ticket_in, tickets_answered, tickets_of}
 use Rattle.macs_edge.specs.Commanding.{tickets_taken, told_by}
@@ -120,6 +120,31 @@ module _ {D : Type 0} (disk_of : D → Disk) where
       (obeys old between endpoint events before so_far
       (obeys-with disk_of quiet true between.endpoint endpoint before wants)) turn)
 
+  -- ---- events at which no call is made
+
+  without-calls : (old new : Relay D) (events more : List DeskEvent) → Attended disk_of old events new
+      → Matches new.endpoint more [] new.endpoint → Attended disk_of old (events ++ more) new
+  without-calls old new events more so_far none = record {
+    goes = so_far.goes;
+    matches = subst (λ (l : List (Transition D)). Matches old.endpoint (events ++ more) l new.endpoint)
+        (append-nil so_far.goes.calls)
+        (matches-append old.endpoint new.endpoint new.endpoint events more so_far.goes.calls [] so_far.matches none);
+  }
+
+  -- the desk orders the end
+  ends : (old new : Relay D) (events : List DeskEvent) (quiet : Bool) → Attended disk_of old events new
+      → Attended disk_of old (events ++ Wanted quiet End ∷ []) new
+  ends old new events quiet so_far = without-calls old new events (Wanted quiet End ∷ []) so_far
+      (record { handed = refl; told = refl; ended = refl; queue = append-nil (tickets_of new.endpoint.waiting) })
+
+  -- the desk rests after a quiet turn
+  rests : (old new : Relay D) (events : List DeskEvent) (quiet : Bool) → Attended disk_of old events new
+      → Attended disk_of old (events ++ rests_after quiet) new
+  rests old new events true so_far = without-calls old new events (Rested ∷ []) so_far
+      (record { handed = refl; told = refl; ended = refl; queue = append-nil (tickets_of new.endpoint.waiting) })
+  rests old new events false so_far =
+      subst (λ (l : List DeskEvent). Attended disk_of old l new) (sym (append-nil events)) so_far
+
   -- ---- turns
 
   pub all-turns : (turns : ℕ) (old new : Relay D) (events : List DeskEvent) (quiet : Bool) → old.to_common ≡ empty_lane
@@ -130,25 +155,13 @@ module _ {D : Type 0} (disk_of : D → Disk) where
       (subst (λ (l : List DeskEvent). Attended disk_of old l old) (sym none) (begins old out back))
   all-turns (suc turns) old new events quiet out back
       (between, earlier, was_quiet, last, progress, before, (wanted, endpoint, obeyed, turn, is_last), which, is) =
-      subst (λ (l : List DeskEvent). Attended disk_of old l new)
-      (sym (is ∙ ap (λ (l : List DeskEvent). earlier ++ l) is_last))
+      subst (λ (l : List DeskEvent). Attended disk_of old l new) (sym is)
+      (rests old new (earlier ++ last) quiet (subst (λ (l : List DeskEvent). Attended disk_of old (earlier ++ l) new)
+      (sym is_last)
       (attended-turn old between new endpoint earlier wanted was_quiet (Ok progress)
-      (all-turns turns old between earlier was_quiet out back before) obeyed turn)
+      (all-turns turns old between earlier was_quiet out back before) obeyed turn)))
 
   -- ---- the end
-
-  -- the desk wants the end: no call is made
-  ends : (old new : Relay D) (events : List DeskEvent) (quiet : Bool) → Attended disk_of old events new
-      → Attended disk_of old (events ++ Wanted quiet End ∷ []) new
-  ends old new events quiet so_far = record {
-    goes = so_far.goes;
-    matches = subst
-        (λ (l : List (Transition D)). Matches old.endpoint (events ++ Wanted quiet End ∷ []) l new.endpoint)
-        (append-nil so_far.goes.calls)
-        (matches-append old.endpoint new.endpoint new.endpoint events (Wanted quiet End ∷ []) so_far.goes.calls []
-        so_far.matches
-        (record { handed = refl; told = refl; ended = refl; queue = append-nil (tickets_of new.endpoint.waiting) }));
-  }
 
   turns-end : (turns : ℕ) (old new : Relay D) (events : List DeskEvent) (answer : Result (Unit {0}) StepFault)
       → old.to_common ≡ empty_lane

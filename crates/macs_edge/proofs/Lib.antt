@@ -12,7 +12,7 @@ mod ByDatagrams
 pub mod Queueing
 pub mod Matching
 mod Attended
-mod Rested
+pub mod LeftAlone
 pub mod AttendedFlows
 mod Drawn
 pub mod Judged

@@ -12,8 +12,7 @@ use Rattle.macs_edge.specs.Attending.{Attends, AttendsTurns, Does, IsAttended, O
 use Rattle.macs_edge.specs.declared.attending.DeskEvent.{DeskEvent}
 use Rattle.macs_edge.specs.Settling.{call_on}
 use Rattle.macs_edge.specs.CaptureRuns.{Run, RunsOver, RunsRecords, Stops}
-use Rattle.macs_edge.specs.Relaying.{Carries, HandsWaiting, IsRelayed, Relay, Relays, TakesTurn, TakesTurns, Way}
-use Rattle.macs_edge.specs.Relaying.{way_of}
+use Rattle.macs_edge.specs.Relaying.{Carries, HandsWaiting, Relay, TakesTurn, Way, way_of}
 use Rattle.macs_edge.specs.Wires.{WireState}
 use Rattle.macs_edge.specs.declared.capture_runs.RunFault.{RunFault}
 use Rattle.macs_edge.specs.declared.capture_runs.RunFault.TheVariants.{Device, Pcap}
@@ -82,33 +81,6 @@ module _ {D : Type 0} (disk_of : D → Disk) where
       (lives-carries Common (way_of mid common controlled old.to_controlled)
       (way_of endpoint new.common new.controlled new.to_controlled) two))
       (record { call = Advances; reply = Advanced answer; after = new.endpoint } ∷ [], (sound, call, refl))
-
-  lives-turns : (turns : ℕ) (old new : Relay D) → TakesTurns disk_of turns old new
-      → LivesOn disk_of old.endpoint new.endpoint
-  lives-turns zero old new is = ([], ap (λ (r : Relay D). r.endpoint) is)
-  lives-turns (suc turns) old new (between, progress, before, last) =
-      behind old.endpoint between.endpoint new.endpoint (lives-turns turns old between before)
-      (lives-turn (Ok progress) between new last)
-
-  lives-relays : {T : Type 0} (turns : ℕ) (old new : Relay D) (result : Result T RefillFault)
-      → Relays disk_of turns old result new
-      → LivesOn disk_of old.endpoint new.endpoint
-  lives-relays turns old new (Ok summary) taken = lives-turns turns old new taken
-  lives-relays turns old new (Err fault) (done, between, at, named, fewer, before, last) =
-      behind old.endpoint between.endpoint new.endpoint (lives-turns done old between before)
-      (lives-turn (Err at) between new last)
-
-  pub lives-relayed : (turns : ℕ) (old : Relay D) (result : Result RelaySummary RefillFault)
-      (endpoint : EndpointValue D) (controlled common : WireState)
-      → IsRelayed disk_of turns old result endpoint controlled common → LivesOn disk_of old.endpoint endpoint
-  lives-relayed turns old result endpoint controlled common (to_common, to_controlled, relays, told) =
-      lives-relays turns old (record {
-        endpoint = endpoint;
-        controlled = controlled;
-        common = common;
-        to_common = to_common;
-        to_controlled = to_controlled;
-      }) result relays
 
   -- ---- relays that are attended
 

@@ -1,7 +1,6 @@
 -- A relay that a desk attends: what the desk orders before each turn, and what is reported to it about its commands.
 use Rattle.std.specs.Prelude.{◌≡◌, ◌⊎◌, ◌↔◌, ◌<◌, ◌++◌, ℕ, zero, suc, Bool, true, false, IsTrue, List, [], ◌∷◌, map}
-use Rattle.std.specs.Prelude.{Option, IfOk, Result, Ok, Err}
-use Rattle.std.specs.Option.{option_map}
+use Rattle.std.specs.Prelude.{IfOk, Result, Ok, Err}
 use Rattle.macs_disk.specs.Disk.{Disk}
 use Rattle.macs_endpoint.specs.Calls.{IsCall}
 use Rattle.macs_endpoint.specs.Faults.{refill_fault_named}
@@ -18,14 +17,15 @@ use Rattle.macs_edge.specs.Resting.{IsQuiet}
 use Rattle.macs_edge.specs.Wires.{WireState}
 use Rattle.macs_edge.specs.declared.attending.CommandEnd.TheVariants as end
 use Rattle.macs_edge.specs.declared.attending.DeskEvent.{DeskEvent}
-use Rattle.macs_edge.specs.declared.attending.DeskEvent.TheVariants.{Answered, Took, Wanted}
+use Rattle.macs_edge.specs.declared.attending.DeskEvent.TheVariants.{Answered, Rested, Took, Wanted}
 use Rattle.macs_edge.specs.declared.attending.Order.{Order}
 use Rattle.macs_edge.specs.declared.attending.Order.TheVariants.{Go, Submit, End}
 use Rattle.macs_edge.specs.declared.relaying.RelaySummary.{RelaySummary}
 
--- what a desk has noted, if known, and these events
-abbrev pub with_events : Option (List DeskEvent) → List DeskEvent → Option (List DeskEvent)
-with_events noted events = option_map (λ before. before ++ events) noted
+-- a desk is given these events in order, each by a call of its own: `hears` is what one makes of it
+abbrev pub HearsAll : {K : Type 0} → (K → DeskEvent → K → Type 0) → K → List DeskEvent → K → Type 0
+HearsAll hears old [] new = new ≡ old
+HearsAll {K} hears old (event ∷ events) new = (between : K) × hears old event between × HearsAll hears between events new
 
 -- ---- before a turn
 
@@ -60,7 +60,12 @@ TakesAttended {D} disk_of was_quiet old events progress new = (before : List Des
     × TakesTurn disk_of (Ok progress) (record old { endpoint = endpoint }) new
     × (events ≡ before ++ answers_of progress)
 
--- this many of these, and whether the last one was quiet: before the first it was not
+-- the desk rests once after a quiet turn
+abbrev pub rests_after : Bool → List DeskEvent
+rests_after true = Rested ∷ []
+rests_after false = []
+
+-- this many of these, each with the rest after it, and whether the last one was quiet: before the first it was not
 abbrev pub TakesAllAttended : {D : Type 0} → (D → Disk) → ℕ → Relay D → List DeskEvent → Bool → Relay D → Type 0
 TakesAllAttended disk_of zero old events quiet new = (events ≡ []) × (quiet ≡ false) × (new ≡ old)
 TakesAllAttended {D} disk_of (suc turns) old events quiet new = (between : Relay D) × (earlier : List DeskEvent)
@@ -68,7 +73,7 @@ TakesAllAttended {D} disk_of (suc turns) old events quiet new = (between : Relay
     × (last : List DeskEvent) × (progress : Progress)
     × TakesAllAttended disk_of turns old earlier was_quiet between
     × TakesAttended disk_of was_quiet between last progress new
-    × (IsTrue quiet ↔ IsQuiet progress between new) × (events ≡ earlier ++ last)
+    × (IsTrue quiet ↔ IsQuiet progress between new) × (events ≡ earlier ++ last ++ rests_after quiet)
 
 -- ---- the end
 

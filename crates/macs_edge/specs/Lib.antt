@@ -12,6 +12,7 @@ pub mod Relaying
 pub mod Flows
 pub mod Resting
 pub mod Attending
+pub mod Unattended
 pub mod Commanding
 pub mod Counts
 pub mod Drawn

@@ -2,8 +2,8 @@
 
 ghost use Rattle.std.specs.Prelude.{◌≡◌, List};
 ghost use Rattle.macs_endpoint.specs.Lives.{LivesOn};
-ghost use Rattle.macs_edge.specs.Attending.{AttendsTurns, IsAttended, Obeys};
-ghost use Rattle.macs_edge.specs.Attending.{answers_of, failed_of, with_events};
+ghost use Rattle.macs_edge.specs.Attending.{AttendsTurns, HearsAll, IsAttended, Obeys};
+ghost use Rattle.macs_edge.specs.Attending.{answers_of, failed_of, rests_after};
 ghost use Rattle.macs_edge.specs.Relaying.{empty_lane, lane_value, relay_of};
 ghost use Rattle.macs_edge.specs.declared.attending.DeskEvent.{DeskEvent};
 
@@ -45,31 +45,37 @@ pub enum DeskEvent {
     Took(Result<Ticket, SubmitFault>),
     /// The result of the command with this ticket.
     Answered(Ticket, CommandEnd),
+    /// A quiet turn is over.
+    Rested,
 }
 
-/// Attends a relay: submits commands between turns, and is given the result of each.
+/// Attends a relay: submits commands between turns, is given the result of each, and may rest after
+/// a quiet turn.
 pub trait Desk<D: SectorDisk, P: Wire, C: Wire> {
-    ghost use Rattle.std.specs.Prelude.{◌≡◌, [], ◌∷◌, List, Option, None};
-    ghost use Rattle.macs_edge.specs.Attending.{with_events};
+    ghost use Rattle.std.specs.Prelude.{⊤};
     ghost use Rattle.macs_edge.specs.declared.attending.DeskEvent.{DeskEvent};
-    ghost use Rattle.macs_edge.specs.declared.attending.DeskEvent.TheVariants.{Answered, Took};
-    ghost use Rattle.macs_edge.specs.declared.attending.DeskEvent.TheVariants.{Wanted};
+    ghost use Rattle.macs_edge.specs.declared.attending.DeskEvent.TheVariants.{Answered, Rested};
+    ghost use Rattle.macs_edge.specs.declared.attending.DeskEvent.TheVariants.{Took, Wanted};
 
-    /// What passed between it and relays, earliest first, if known.
-    ghost events: { Self → Option (List DeskEvent) } = { λ _. None };
+    /// What an event makes of it.
+    ghost hears: { Self → DeskEvent → Self → Type 0 } = { λ _ _ _. ⊤ };
 
     /// The order before a turn. It may read the endpoint and the wires. After a quiet turn it may
     /// sleep for a bounded time; otherwise it does not wait.
     fn next(&mut self, endpoint: &Endpoint<D>, controlled: &P, common: &C, was_quiet: bool) -> Order
-        ensures { events self.new ≡ with_events (events self.old) (Wanted was_quiet result ∷ []) };
+        ensures { hears self.old (Wanted was_quiet result) self.new };
 
     /// Receives the ticket of the command that it submitted, or why that was not taken.
     fn took(&mut self, answer: Result<Ticket, SubmitFault>)
-        ensures { events self.new ≡ with_events (events self.old) (Took answer ∷ []) };
+        ensures { hears self.old (Took answer) self.new };
 
     /// Receives the result of a command that was taken.
     fn answered(&mut self, ticket: Ticket, end: CommandEnd)
-        ensures { events self.new ≡ with_events (events self.old) (Answered ticket end ∷ []) };
+        ensures { hears self.old (Answered ticket end) self.new };
+
+    /// Rests after a quiet turn: it may sleep for a bounded time.
+    fn rest(&mut self)
+        ensures { hears self.old Rested self.new };
 }
 
 /// Carries out a desk's order before a turn, and reports to it. Returns whether a turn follows.
@@ -82,7 +88,7 @@ fn obey<D: SectorDisk, P: Wire, C: Wire, K: Desk<D, P, C>>(
 ) -> bool
     ensures { (events : List DeskEvent)
         × Obeys D.disk was_quiet endpoint.old events result endpoint.new
-        × (K.events desk.new ≡ with_events (K.events desk.old) events) }
+        × HearsAll K.hears desk.old events desk.new }
 {
     match desk.next(endpoint, controlled, common, was_quiet) {
         Order::Go => true,
@@ -97,7 +103,7 @@ fn obey<D: SectorDisk, P: Wire, C: Wire, K: Desk<D, P, C>>(
 
 /// Reports the result of the command that a step completes.
 fn tell<D: SectorDisk, P: Wire, C: Wire, K: Desk<D, P, C>>(desk: &mut K, step: Step)
-    ensures { K.events desk.new ≡ with_events (K.events desk.old) (answers_of step) }
+    ensures { HearsAll K.hears desk.old (answers_of step) desk.new }
 {
     match step {
         Step::Done(ticket, result) => desk.answered(ticket, CommandEnd::Done(result)),
@@ -105,9 +111,18 @@ fn tell<D: SectorDisk, P: Wire, C: Wire, K: Desk<D, P, C>>(desk: &mut K, step: S
     }
 }
 
+/// Lets a desk rest if a turn was quiet.
+fn rest<D: SectorDisk, P: Wire, C: Wire, K: Desk<D, P, C>>(desk: &mut K, is_quiet: bool)
+    ensures { HearsAll K.hears desk.old (rests_after is_quiet) desk.new }
+{
+    if is_quiet {
+        desk.rest();
+    }
+}
+
 /// Answers the pending commands as failed, in order.
 fn close<D: SectorDisk, P: Wire, C: Wire, K: Desk<D, P, C>>(endpoint: &Endpoint<D>, desk: &mut K)
-    ensures { K.events desk.new ≡ with_events (K.events desk.old) (failed_of endpoint.now.waiting) }
+    ensures { HearsAll K.hears desk.old (failed_of endpoint.now.waiting) desk.new }
 {
     for waiting in endpoint.waiting() {
         desk.answered(waiting.ticket, CommandEnd::Failed);
@@ -129,7 +144,7 @@ fn attend_turns<D: SectorDisk, P: Wire, C: Wire, K: Desk<D, P, C>>(
         (lane_value to_common.old) (lane_value to_controlled.old)) events result
         (relay_of endpoint.new (P.state controlled.new) (C.state common.new)
         (lane_value to_common.new) (lane_value to_controlled.new))
-        × (K.events desk.new ≡ with_events (K.events desk.old) events) }
+        × HearsAll K.hears desk.old events desk.new }
 {
     let mut out = FrameBuf::new();
     let mut is_quiet = false;
@@ -149,6 +164,7 @@ fn attend_turns<D: SectorDisk, P: Wire, C: Wire, K: Desk<D, P, C>>(
         )?;
         is_quiet = was_quiet(&step, out_before, back_before, to_common, to_controlled);
         tell::<D, P, C, K>(desk, step);
+        rest::<D, P, C, K>(desk, is_quiet);
     }
     Ok(())
 }
@@ -157,6 +173,10 @@ fn attend_turns<D: SectorDisk, P: Wire, C: Wire, K: Desk<D, P, C>>(
 /// desk is asked for an order: the relay continues, a command is submitted, or the relay ends. A
 /// requested end comes at once, with no further turn. After a turn whose step completes a command
 /// the desk is given its result.
+///
+/// The desk rests once after each quiet turn, and after no other: one whose step found no work,
+/// which leaves both lanes empty, and in which neither a frame nor a failed call of a wire was
+/// counted. A rest touches neither the endpoint nor the wires.
 ///
 /// At the end, even after a refused step, each command that is still pending is answered as failed.
 /// So each command that was taken is answered once, in the order of tickets.
@@ -170,7 +190,7 @@ pub fn attend<D: SectorDisk, P: Wire, C: Wire, K: Desk<D, P, C>>(
     ensures attended { (events : List DeskEvent) × IsAttended D.disk turns
         (relay_of endpoint.old (P.state controlled.old) (C.state common.old) empty_lane empty_lane)
         events result endpoint.new (P.state controlled.new) (C.state common.new)
-        × (K.events desk.new ≡ with_events (K.events desk.old) events) }
+        × HearsAll K.hears desk.old events desk.new }
     ensures lives { LivesOn D.disk endpoint.old endpoint.new }
 {
     let mut to_common = Lane::new();

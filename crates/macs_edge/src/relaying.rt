@@ -1,16 +1,15 @@
-//! Frames between two wires through an endpoint, both ways.
+//! A turn of a relay: a frame each way between two wires through an endpoint.
 
-ghost use Rattle.std.specs.Prelude.{◌≡◌, ◌↔◌, ℕ, IsTrue, Some, None};
-ghost use Rattle.macs_endpoint.specs.Lives.{LivesOn};
-ghost use Rattle.macs_edge.specs.Relaying.{Carries, Fills, Forwards, HandsOver, IsRelayed};
+ghost use Rattle.std.specs.Prelude.{◌≡◌, ◌↔◌, IsTrue, Some, None};
+ghost use Rattle.macs_edge.specs.Relaying.{Carries, Fills, Forwards, HandsOver};
 ghost use Rattle.macs_edge.specs.Relaying.{TakesTurn, empty_lane, lane_value, one_left, relay_of};
 ghost use Rattle.macs_edge.specs.Relaying.{summary_of, way_of};
-ghost use Rattle.macs_edge.specs.Resting.{AllRest, IsRelayedResting, one_if, with_sleeps};
+ghost use Rattle.macs_edge.specs.Resting.{AllRest};
 
 use crate::settling::{Outcome, Side, hand_in};
 use crate::wire::{Got, Wire};
 use macs_disk::SectorDisk;
-use macs_endpoint::{Endpoint, RefillFault, Step, StepFault};
+use macs_endpoint::{Endpoint, Step, StepFault};
 use macs_frame::FrameBuf;
 
 /// What became of the frames that a relay took. Each number is at most 2^64 - 1.
@@ -70,27 +69,6 @@ impl Lane {
     {
         !self.is_full && self.tally == before
     }
-}
-
-/// What a relay does after a turn in which it had nothing to do.
-pub trait Idle {
-    ghost use Rattle.std.specs.Prelude.{◌≡◌, ℕ, Option, None};
-    ghost use Rattle.macs_edge.specs.Resting.{with_sleeps};
-
-    /// How often it slept, if known.
-    ghost sleeps: { Self → Option ℕ } = { λ _. None };
-
-    /// Sleeps until there may be something to do, but only for a bounded time.
-    fn idle(&mut self)
-        ensures { sleeps self.new ≡ with_sleeps (sleeps self.old) 1 };
-}
-
-/// An `Idle` that never sleeps.
-#[derive(Drop)]
-struct Awake;
-
-impl Idle for Awake {
-    fn idle(&mut self) {}
 }
 
 /// Takes a frame from a wire into an empty lane.
@@ -245,79 +223,4 @@ pub(crate) fn was_quiet(
         Step::Idle => to_common.rests(out_before) && to_controlled.rests(back_before),
         Step::Worked | Step::Reserved | Step::Done(_, _) => false,
     }
-}
-
-/// Sleeps if a turn was quiet.
-fn rest<I: Idle>(idle: &mut I, is_quiet: bool)
-    ensures { I.sleeps idle.new ≡ with_sleeps (I.sleeps idle.old) (one_if is_quiet) }
-{
-    if is_quiet {
-        idle.idle();
-    }
-}
-
-/// Relays frames between two wires, for `turns` turns. In each turn a plain frame is taken from the
-/// controlled wire, protected, and sent on the common wire; then a frame is taken from the common
-/// wire, and sent on the controlled wire if it is delivered; then the disk work advances by one
-/// `step`, if there is any: at most one device call comes between two frames. A frame that waits
-/// for packet numbers stays in its lane for the next turn, and no other is taken on its side. No
-/// frame is sent twice, not even after a failed send.
-///
-/// Ends with the first turn whose step is refused, with the fault of the same name: the frames of
-/// that turn were submitted by then, and those that passed were sent. What a step reports about
-/// submitted commands is not kept. No call blocks: if no frame arrives a turn is soon over. Nothing
-/// is allocated: three frames are in arrays.
-pub fn relay<D: SectorDisk, P: Wire, C: Wire>(
-    endpoint: &mut Endpoint<D>,
-    controlled: &mut P,
-    common: &mut C,
-    turns: u64,
-) -> Result<RelaySummary, RefillFault>
-    ensures relayed { IsRelayed D.disk turns
-        (relay_of endpoint.old (P.state controlled.old) (C.state common.old) empty_lane empty_lane)
-        result
-        endpoint.new (P.state controlled.new) (C.state common.new) }
-    ensures lives { LivesOn D.disk endpoint.old endpoint.new }
-{
-    relay_resting(endpoint, controlled, common, &mut Awake, turns)
-}
-
-/// Relays frames as `relay` does. It sleeps once after each quiet turn, and after no other: one
-/// whose step found no work, which leaves both lanes empty, and in which neither a frame nor a
-/// failed call of a wire was counted. A sleep touches neither the endpoint nor the wires. There is
-/// none after a turn whose step is refused.
-pub fn relay_resting<D: SectorDisk, P: Wire, C: Wire, I: Idle>(
-    endpoint: &mut Endpoint<D>,
-    controlled: &mut P,
-    common: &mut C,
-    idle: &mut I,
-    turns: u64,
-) -> Result<RelaySummary, RefillFault>
-    ensures relayed { IsRelayed D.disk turns
-        (relay_of endpoint.old (P.state controlled.old) (C.state common.old) empty_lane empty_lane)
-        result endpoint.new (P.state controlled.new) (C.state common.new) }
-    ensures rested { (slept : ℕ) × IsRelayedResting D.disk turns
-        (relay_of endpoint.old (P.state controlled.old) (C.state common.old) empty_lane empty_lane)
-        slept result endpoint.new (P.state controlled.new) (C.state common.new)
-        × (I.sleeps idle.new ≡ with_sleeps (I.sleeps idle.old) slept) }
-    ensures lives { LivesOn D.disk endpoint.old endpoint.new }
-{
-    let mut to_common = Lane::new();
-    let mut to_controlled = Lane::new();
-    let mut out = FrameBuf::new();
-    for _ in 0..turns {
-        let out_before = to_common.tally;
-        let back_before = to_controlled.tally;
-        let step = turn(
-            endpoint,
-            controlled,
-            common,
-            &mut to_common,
-            &mut to_controlled,
-            &mut out,
-        )?;
-        let is_quiet = was_quiet(&step, out_before, back_before, &to_common, &to_controlled);
-        rest(idle, is_quiet);
-    }
-    Ok(summed(&to_common, &to_controlled))
 }

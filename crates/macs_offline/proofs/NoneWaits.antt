@@ -7,7 +7,7 @@ use Rattle.macs_disk.specs.Disk.{Disk}
 use Rattle.macs_edge.proofs.Queueing.{frame-waits}
 use Rattle.macs_edge.specs.Attending.{IsAttended}
 use Rattle.macs_edge.specs.CaptureRuns.{HandsAllIn, Run, RunsOver, RunsRecords, Stops}
-use Rattle.macs_edge.specs.Relaying.{IsRelayed, Relay}
+use Rattle.macs_edge.specs.Relaying.{Relay}
 use Rattle.macs_edge.specs.Settling.{HaltsIn, HandsIn, call_on}
 use Rattle.macs_edge.specs.Wires.{WireState}
 use Rattle.macs_edge.specs.declared.attending.DeskEvent.{DeskEvent}
@@ -240,13 +240,6 @@ module _ {D : Type 0} (disk_of : D → Disk) where
       (ap (λ (e : EndpointValue D). e.waiting) endpoint ∙ none)
 
   -- ---- relays, whatever waits
-
-  pub relay-not-busy : (turns : ℕ) (old : Relay D) (fault : RefillFault) (endpoint : EndpointValue D)
-      (controlled common : WireState)
-      → IsRelayed disk_of turns old (Err fault) endpoint controlled common → fault ≢ refill.Busy
-  relay-not-busy turns old fault endpoint controlled common
-      (to_common, to_controlled, (done, between, at, named, fewer, before, last), told) busy =
-      named-not-busy at (sym named ∙ busy)
 
   pub attended-not-busy : (turns : ℕ) (old : Relay D) (events : List DeskEvent) (fault : RefillFault)
       (endpoint : EndpointValue D) (controlled common : WireState)

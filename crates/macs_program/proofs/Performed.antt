@@ -29,8 +29,10 @@ use Rattle.macs_cli.specs.declared.failure.Failure.TheVariants.{Output}
 use Rattle.macs_cli.specs.declared.status.Status.{Status}
 use Rattle.macs_cli.specs.declared.status.Status.TheVariants as ends
 use Rattle.macs_cli.specs.declared.words.action.Action.{Action}
-use Rattle.macs_cli.specs.declared.words.action.Action.TheVariants.{Open, Format, Apply, Show, Protect, Validate, Relay}
-use Rattle.macs_cli.specs.declared.words.action.Action.TheVariants.{Ask, Key, Inspect, Check, Plan, Examine, About}
+use Rattle.macs_cli.specs.declared.words.action.Action.TheVariants.{Open, OnDisk, OnFrames, Tool}
+use Rattle.macs_cli.specs.declared.words.action.DiskAction.TheVariants.{Format, Apply, Show}
+use Rattle.macs_cli.specs.declared.words.action.FrameAction.TheVariants.{Protect, Validate, Relay}
+use Rattle.macs_cli.specs.declared.words.action.ToolAction.TheVariants.{Ask, Key, Inspect, Check, Plan, Examine, About}
 use Rattle.macs_cli.specs.declared.words.action.WireEnds.{WireEnds}
 use Rattle.macs_cli.specs.declared.words.plan_words.PlanEnd.{PlanEnd}
 use Rattle.macs_cli.specs.declared.words.plan_words.PlanStage.{PlanStage}
@@ -184,12 +186,12 @@ module _ {F W : Type 0} (state_of : F → FileState) (left_in : F → Option (Li
 
   pub formats : (disk sci : Bor (List ℕ)) (tx_block rx_block : ℕ) (block : Option (Bor (List ℕ))) (is_over : Bool)
       → IfOk result
-      (Does state_of left_in (Format disk sci tx_block rx_block block is_over) input (contents old) (contents new))
+      (Does state_of left_in (OnDisk (Format disk sci tx_block rx_block block is_over)) input (contents old) (contents new))
       → IfErr result (λ failure. failure_status failure ≡ ends.Usage
-      → WrongValues (Format disk sci tx_block rx_block block is_over) × (new ≡ old)) → Silent
-      → IfErr result (FailsAs state_of left_in (Format disk sci tx_block rx_block block is_over) input (contents old)
+      → WrongValues (OnDisk (Format disk sci tx_block rx_block block is_over)) × (new ≡ old)) → Silent
+      → IfErr result (FailsAs state_of left_in (OnDisk (Format disk sci tx_block rx_block block is_over)) input (contents old)
       (contents new)) → Broken
-      → Performs state_of left_in contents failed (Format disk sci tx_block rx_block block is_over) input old result new
+      → Performs state_of left_in contents failed (OnDisk (Format disk sci tx_block rx_block block is_over)) input old result new
   formats disk sci tx_block rx_block block is_over done usage silent fails broken = record {
     does = done;
     status = IfOk-weaker result _ _
@@ -202,16 +204,16 @@ module _ {F W : Type 0} (state_of : F → FileState) (left_in : F → Option (Li
   }
 
   pub applies : (disk file : Bor (List ℕ))
-      → IfOk result (Does state_of left_in (Apply disk file) input (contents old) (contents new)) → NoUsage
+      → IfOk result (Does state_of left_in (OnDisk (Apply disk file)) input (contents old) (contents new)) → NoUsage
       → IfErr result (λ failure. failure ≢ Output
       → (outcomes : List (Option Refusal)) × Appends (contents old) (contents new) (outcome_lines 1 outcomes))
-      → IfErr result (FailsAs state_of left_in (Apply disk file) input (contents old) (contents new)) → Broken
-      → Performs state_of left_in contents failed (Apply disk file) input old result new
+      → IfErr result (FailsAs state_of left_in (OnDisk (Apply disk file)) input (contents old) (contents new)) → Broken
+      → Performs state_of left_in contents failed (OnDisk (Apply disk file)) input old result new
   applies disk file done other lines fails broken = record {
     does = done;
     status = IfOk-weaker result _ _
         (λ status all. applied-status all.applies.applies.outcomes status all.applies.applies.status_is) done;
-    usage = no-usage (Apply disk file) other;
+    usage = no-usage (OnDisk (Apply disk file)) other;
     disk = IfErr-weaker result _ _ (λ failure printed disk. ((λ is. absurd cc), printed (of-disk failure disk))) lines;
     before = lines;
     fails = fails;
@@ -219,13 +221,13 @@ module _ {F W : Type 0} (state_of : F → FileState) (left_in : F → Option (Li
   }
 
   pub shows : (disk : Bor (List ℕ))
-      → IfOk result (Does state_of left_in (Show disk) input (contents old) (contents new)) → NoUsage → Silent
-      → IfErr result (FailsAs state_of left_in (Show disk) input (contents old) (contents new)) → Broken
-      → Performs state_of left_in contents failed (Show disk) input old result new
+      → IfOk result (Does state_of left_in (OnDisk (Show disk)) input (contents old) (contents new)) → NoUsage → Silent
+      → IfErr result (FailsAs state_of left_in (OnDisk (Show disk)) input (contents old) (contents new)) → Broken
+      → Performs state_of left_in contents failed (OnDisk (Show disk)) input old result new
   shows disk done other silent fails broken = record {
     does = done;
     status = IfOk-weaker result _ _ (λ status all. inl all.1) done;
-    usage = no-usage (Show disk) other;
+    usage = no-usage (OnDisk (Show disk)) other;
     disk = IfErr-weaker result _ _ (λ failure same disk. ((λ is. absurd cc), same disk)) (kept silent);
     before = before silent;
     fails = fails;
@@ -233,16 +235,16 @@ module _ {F W : Type 0} (state_of : F → FileState) (left_in : F → Option (Li
   }
 
   pub protects : (disk from to : Bor (List ℕ)) (is_all : Bool)
-      → IfOk result (Does state_of left_in (Protect disk from to is_all) input (contents old) (contents new)) → NoUsage
+      → IfOk result (Does state_of left_in (OnFrames (Protect disk from to is_all)) input (contents old) (contents new)) → NoUsage
       → Silent
-      → IfErr result (FailsAs state_of left_in (Protect disk from to is_all) input (contents old) (contents new))
+      → IfErr result (FailsAs state_of left_in (OnFrames (Protect disk from to is_all)) input (contents old) (contents new))
       → Broken
-      → Performs state_of left_in contents failed (Protect disk from to is_all) input old result new
+      → Performs state_of left_in contents failed (OnFrames (Protect disk from to is_all)) input old result new
   protects disk from to is_all done other silent fails broken = record {
     does = done;
     status = IfOk-weaker result _ _ (λ status all. let (summary, passes, printed, is) = all in
         pass-ends is_all summary status is) done;
-    usage = no-usage (Protect disk from to is_all) other;
+    usage = no-usage (OnFrames (Protect disk from to is_all)) other;
     disk = IfErr-weaker result _ _ (λ failure same disk. ((λ is. absurd cc), same disk)) (kept silent);
     before = before silent;
     fails = fails;
@@ -250,16 +252,16 @@ module _ {F W : Type 0} (state_of : F → FileState) (left_in : F → Option (Li
   }
 
   pub validates : (disk from to : Bor (List ℕ)) (is_all : Bool) → IfOk result
-      (Does state_of left_in (Validate disk from to is_all false) input (contents old) (contents new)) → NoUsage
+      (Does state_of left_in (OnFrames (Validate disk from to is_all false)) input (contents old) (contents new)) → NoUsage
       → Silent
-      → IfErr result (FailsAs state_of left_in (Validate disk from to is_all false) input (contents old) (contents new))
+      → IfErr result (FailsAs state_of left_in (OnFrames (Validate disk from to is_all false)) input (contents old) (contents new))
       → Broken
-      → Performs state_of left_in contents failed (Validate disk from to is_all false) input old result new
+      → Performs state_of left_in contents failed (OnFrames (Validate disk from to is_all false)) input old result new
   validates disk from to is_all done other silent fails broken = record {
     does = done;
     status = IfOk-weaker result _ _ (λ status all. let (summary, passes, printed, is) = all in
         pass-ends is_all summary status is) done;
-    usage = no-usage (Validate disk from to is_all false) other;
+    usage = no-usage (OnFrames (Validate disk from to is_all false)) other;
     disk = IfErr-weaker result _ _ (λ failure same disk. ((λ is. absurd cc), same disk)) (kept silent);
     before = before silent;
     fails = fails;
@@ -267,16 +269,16 @@ module _ {F W : Type 0} (state_of : F → FileState) (left_in : F → Option (Li
   }
 
   pub judges : (disk from to : Bor (List ℕ)) (is_all : Bool)
-      → IfOk result (Does state_of left_in (Validate disk from to is_all true) input (contents old) (contents new))
+      → IfOk result (Does state_of left_in (OnFrames (Validate disk from to is_all true)) input (contents old) (contents new))
       → NoUsage → IfErr result (λ failure. failure ≢ Output → PrintsVerdicts (contents old) (contents new))
-      → IfErr result (FailsAs state_of left_in (Validate disk from to is_all true) input (contents old) (contents new))
+      → IfErr result (FailsAs state_of left_in (OnFrames (Validate disk from to is_all true)) input (contents old) (contents new))
       → Broken
-      → Performs state_of left_in contents failed (Validate disk from to is_all true) input old result new
+      → Performs state_of left_in contents failed (OnFrames (Validate disk from to is_all true)) input old result new
   judges disk from to is_all done other front fails broken = record {
     does = done;
     status = IfOk-weaker result _ _ (λ status all. let (summary, verdicts, passes, printed, is) = all in
         pass-ends is_all summary status is) done;
-    usage = no-usage (Validate disk from to is_all true) other;
+    usage = no-usage (OnFrames (Validate disk from to is_all true)) other;
     disk = IfErr-weaker result _ _ (λ failure printed disk. ((λ is. absurd cc), printed (of-disk failure disk))) front;
     before = front;
     fails = fails;
@@ -285,21 +287,21 @@ module _ {F W : Type 0} (state_of : F → FileState) (left_in : F → Option (Li
 
   -- which of the two, as its flag says
   pub validates-so : (disk from to : Bor (List ℕ)) (is_all is_each b : Bool) → is_each ≡ b
-      → Performs state_of left_in contents failed (Validate disk from to is_all b) input old result new
-      → Performs state_of left_in contents failed (Validate disk from to is_all is_each) input old result new
+      → Performs state_of left_in contents failed (OnFrames (Validate disk from to is_all b)) input old result new
+      → Performs state_of left_in contents failed (OnFrames (Validate disk from to is_all is_each)) input old result new
   validates-so disk from to is_all is_each b is performs =
       subst (λ (x : Bool).
-      Performs state_of left_in contents failed (Validate disk from to is_all x) input old result new)
+      Performs state_of left_in contents failed (OnFrames (Validate disk from to is_all x)) input old result new)
       (sym is) performs
 
   pub relays : (disk : Bor (List ℕ)) (controlled common : WireEnds) (running : Running)
-      → IfOk result (Does state_of left_in (Relay disk controlled common running) input (contents old) (contents new))
+      → IfOk result (Does state_of left_in (OnFrames (Relay disk controlled common running)) input (contents old) (contents new))
       → IfErr result (λ failure. failure_status failure ≡ ends.Usage
-      → WrongValues (Relay disk controlled common running) × (new ≡ old)) → Silent
-      → IfErr result (FailsAs state_of left_in (Relay disk controlled common running) input (contents old)
+      → WrongValues (OnFrames (Relay disk controlled common running)) × (new ≡ old)) → Silent
+      → IfErr result (FailsAs state_of left_in (OnFrames (Relay disk controlled common running)) input (contents old)
       (contents new))
       → Broken
-      → Performs state_of left_in contents failed (Relay disk controlled common running) input old result new
+      → Performs state_of left_in contents failed (OnFrames (Relay disk controlled common running)) input old result new
   relays disk controlled common running done usage silent fails broken = record {
     does = done;
     status = IfOk-weaker result _ _ (λ status all. let (summary, comes, spelled, printed, is) = all in inl is) done;
@@ -326,7 +328,7 @@ module _ {F W : Type 0} (state_of : F → FileState) (left_in : F → Option (Li
       → IfOk result (PrintsAnswer asked is_json (contents old) (contents new))
       → IfErr result (AskFails path.now asked)
       → IfErr result (λ failure. failure ≢ Output → PrintsFront asked (contents old) (contents new)) → Broken
-      → Performs state_of left_in contents failed (Ask path asked is_json) input old result new
+      → Performs state_of left_in contents failed (Tool (Ask path asked is_json)) input old result new
   asks path asked is_json done fails front broken = record {
     does = done;
     status = IfOk-weaker result _ _ (answer-status asked is_json) done;
@@ -340,7 +342,7 @@ module _ {F W : Type 0} (state_of : F → FileState) (left_in : F → Option (Li
 
   pub keys : (is_long : Bool) → IfOk result
       (λ status. GivesKey is_long (contents old) (contents new) × (status ≡ ends.Done)) → IfErr result IsOfKey
-      → Silent → Broken → Performs state_of left_in contents failed (Key is_long) input old result new
+      → Silent → Broken → Performs state_of left_in contents failed (Tool (Key is_long)) input old result new
   keys is_long done fails silent broken = record {
     does = done;
     status = IfOk-weaker result _ _ (λ status all. inl all.1) done;
@@ -355,7 +357,7 @@ module _ {F W : Type 0} (state_of : F → FileState) (left_in : F → Option (Li
       (λ status. Inspects (contents old) (contents new) × (status ≡ ends.Done)) → IfErr result IsOfInspecting
       → IfErr result (InspectFails from.now (contents old) (contents new))
       → IfErr result (λ failure. failure ≢ Output → PrintsFrames (contents old) (contents new))
-      → Broken → Performs state_of left_in contents failed (Inspect from) input old result new
+      → Broken → Performs state_of left_in contents failed (Tool (Inspect from)) input old result new
   inspects from done ours fails front broken = record {
     does = done;
     status = IfOk-weaker result _ _ (λ status all. inl all.1) done;
@@ -387,7 +389,7 @@ module _ {F W : Type 0} (state_of : F → FileState) (left_in : F → Option (Li
   pub checks : (file : Bor (List ℕ)) (disk : Option (Bor (List ℕ)))
       → IfOk result (Checks state_of left_in disk (contents old) (contents new))
       → IfErr result (CheckEnds state_of left_in file.now disk) → Silent → Broken
-      → Performs state_of left_in contents failed (Check file disk) input old result new
+      → Performs state_of left_in contents failed (Tool (Check file disk)) input old result new
   checks file disk done fails silent broken = record {
     does = done;
     status = IfOk-weaker result _ _ (check-status disk) done;
@@ -402,7 +404,7 @@ module _ {F W : Type 0} (state_of : F → FileState) (left_in : F → Option (Li
       (λ status. PrintsPlan left_in (end_of end) (stage_of stage) (contents old) (contents new)
       × (status ≡ ends.Done))
       → IfErr result (PlanFails left_in file.now (end_of end) (stage_of stage)) → Silent → Broken
-      → Performs state_of left_in contents failed (Plan file end stage) input old result new
+      → Performs state_of left_in contents failed (Tool (Plan file end stage)) input old result new
   plans file end stage done fails silent broken = record {
     does = done;
     status = IfOk-weaker result _ _ (λ status all. inl all.1) done;
@@ -418,7 +420,7 @@ module _ {F W : Type 0} (state_of : F → FileState) (left_in : F → Option (Li
   pub examines : (disk : Bor (List ℕ)) (is_json : Bool)
       → IfOk result (PrintsExamined state_of is_json (contents old) (contents new))
       → IfErr result (ExamineFails state_of disk.now) → Silent → Broken
-      → Performs state_of left_in contents failed (Examine disk is_json) input old result new
+      → Performs state_of left_in contents failed (Tool (Examine disk is_json)) input old result new
   examines disk is_json done fails silent broken = record {
     does = done;
     status = IfOk-weaker result _ _ (λ status (text, is, printed). said-status _ _ _ _ is.says) done;
@@ -432,7 +434,7 @@ module _ {F W : Type 0} (state_of : F → FileState) (left_in : F → Option (Li
 
   pub tells : IfOk result (λ status. Appends (contents old) (contents new) about_text × (status ≡ ends.Done))
       → IfErr result (λ failure. (failure ≡ failures.Memory) ⊎ (failure ≡ Output)) → Silent → Broken
-      → Performs state_of left_in contents failed About input old result new
+      → Performs state_of left_in contents failed (Tool About) input old result new
   tells done fails silent broken = record {
     does = done;
     status = IfOk-weaker result _ _ (λ status all. inl all.1) done;

@@ -1,13 +1,12 @@
 -- What a relay comes to, between two wires that are new; and how it is refused for an address.
-use Rattle.std.proofs.Common.{◌≡◌, ◌≢◌, ◌↔◌, ◌⊎◌, ◌∙◌, ℕ, Bool, true, List, Option, Result, Ok, Err, IfErr, IfOk}
-use Rattle.std.proofs.Common.{inl}
-use Rattle.std.proofs.Common.{inr, refl, subst, sym}
+use Rattle.std.proofs.Common.{◌≡◌, ◌≢◌, ◌↔◌, ◌⊎◌, ◌∙◌, ℕ, Bool, true, List, Option, Result, Ok, Err, IfErr, IfOk, ap}
+use Rattle.std.proofs.Common.{inl, inr, refl, subst, sym}
 use Rattle.std.specs.Io.KnownBytes.{Appends}
 use Rattle.macs_disk.specs.Disk.{Disk}
 use Rattle.macs_disk.specs.FileDisks.{disk_in_file}
 use Rattle.macs_disk.specs.Files.{FileState}
 use Rattle.macs_edge.specs.Attending.{IsAttended}
-use Rattle.macs_edge.specs.Relaying.{Relay, empty_lane, relay_of}
+use Rattle.macs_edge.specs.Relaying.{empty_lane, relay_of}
 use Rattle.macs_edge.specs.declared.attending.DeskEvent.{DeskEvent}
 use Rattle.macs_edge.specs.Wires.{WireState}
 use Rattle.macs_edge.specs.declared.relaying.RelaySummary.{RelaySummary}
@@ -23,9 +22,8 @@ use Rattle.macs_offline.proofs.Tried.{of-look}
 use Rattle.macs_cli.specs.Addresses.{AddressFaultHolds, SpellsBoth, address_faults}
 use Rattle.macs_offline.specs.Openings.{OpeningFails}
 use Rattle.macs_cli.specs.Failing.{failure_of_refill, failure_status}
-use Rattle.macs_program.specs.Relaying.{ComesTo, Course, EndsRelay, IsAfterAddresses, IsOfRelay, IsRun, IsUnbound}
-use Rattle.macs_program.specs.Relaying.{RelayEndsIn, Relays, StopsRelay, attended, course_of, is_attended, new_wire}
-use Rattle.macs_program.specs.Relaying.{turns_of}
+use Rattle.macs_program.specs.Relaying.{ComesTo, Course, IsAfterAddresses, IsOfRelay, IsRun, IsUnbound, RelayEndsIn}
+use Rattle.macs_program.specs.Relaying.{Reports, course_of, is_attended, new_wire, turns_of}
 use Rattle.macs_program.specs.Summing.{relay_line}
 use Rattle.macs_program.specs.Tasks.{DoesRelay, IsRunIn}
 use Rattle.macs_cli.specs.declared.addresses.AddressFault.{AddressFault}
@@ -35,35 +33,23 @@ use Rattle.macs_cli.specs.declared.failure.Failure.TheVariants.{Address}
 use Rattle.macs_cli.specs.declared.status.Status.{Status}
 use Rattle.macs_cli.specs.declared.status.Status.TheVariants as ends
 
-between-new : {D : Type 0} (disk_of : D → Disk) (course : Course) (summary : RelaySummary) (old new : EndpointValue D)
-    (first second controlled common : WireState)
-    → first ≡ new_wire → second ≡ new_wire
-    → IsRun disk_of course (relay_of old first second empty_lane empty_lane) (Ok summary) new controlled common
-    → Relays disk_of course old summary new
-between-new disk_of course summary old new first second controlled common one other relayed = record {
-  controlled = controlled;
-  common = common;
-  relayed = subst (λ (w : WireState).
-      IsRun disk_of course (relay_of old w new_wire empty_lane empty_lane) (Ok summary) new controlled common) one
-      (subst (λ (w : WireState). IsRun disk_of course (relay_of old first w empty_lane empty_lane) (Ok summary) new
-      controlled common) other relayed);
-}
+-- ---- wires that are new
 
--- ---- how a relay ends that is not done
+pub between-new : {D : Type 0} (disk_of : D → Disk) (turns all : ℕ) (old new : EndpointValue D)
+    (first second controlled common : WireState) (events : List DeskEvent) (answer : Result RelaySummary RefillFault)
+    → first ≡ new_wire → second ≡ new_wire → turns ≡ all
+    → IsAttended disk_of turns (relay_of old first second empty_lane empty_lane) events answer new controlled common
+    → IsAttended disk_of all (relay_of old new_wire new_wire empty_lane empty_lane) events answer new controlled common
+between-new disk_of turns all old new first second controlled common events answer one other same attended =
+    subst (λ (n : ℕ). IsAttended disk_of n (relay_of old new_wire new_wire empty_lane empty_lane) events answer new
+    controlled common) same
+    (subst (λ (w : WireState).
+    IsAttended disk_of turns (relay_of old w new_wire empty_lane empty_lane) events answer new controlled common) one
+    (subst (λ (w : WireState).
+    IsAttended disk_of turns (relay_of old first w empty_lane empty_lane) events answer new controlled common) other
+    attended))
 
-ends-new : {D : Type 0} (disk_of : D → Disk) (course : Course) (old new : EndpointValue D)
-    (first second controlled common : WireState) (failure : Failure)
-    → first ≡ new_wire → second ≡ new_wire
-    → EndsRelay disk_of course (relay_of old first second empty_lane empty_lane) failure new controlled common
-    → StopsRelay disk_of course old failure new
-ends-new disk_of course old new first second controlled common failure one other ends = record {
-  controlled = controlled;
-  common = common;
-  ends = subst (λ (w : WireState).
-      EndsRelay disk_of course (relay_of old w new_wire empty_lane empty_lane) failure new controlled common) one
-      (subst (λ (w : WireState). EndsRelay disk_of course (relay_of old first w empty_lane empty_lane) failure new
-      controlled common) other ends);
-}
+-- ---- failures of a relay
 
 refill-behind : (fault : RefillFault) → IsAfterAddresses (failure_of_refill fault)
 refill-behind refill.Stopped = tt
@@ -71,14 +57,11 @@ refill-behind refill.Busy = tt
 refill-behind refill.GenerationsSpent = tt
 refill-behind refill.Disk = tt
 
--- how a relay ends
-ends-behind : {D : Type 0} (disk_of : D → Disk) (course : Course) (old : Relay D) (failure : Failure)
-    (endpoint : EndpointValue D)
-    (controlled common : WireState) → EndsRelay disk_of course old failure endpoint controlled common
-    → IsAfterAddresses failure
-ends-behind disk_of course old failure endpoint controlled common (inl ends) =
-    subst IsAfterAddresses (sym ends.1) (refill-behind ends.0)
-ends-behind disk_of course old failure endpoint controlled common (inr ends) = subst IsAfterAddresses (sym ends.0) tt
+refill-status : (fault : RefillFault) → failure_status (failure_of_refill fault) ≡ ends.Disk
+refill-status refill.Stopped = refl
+refill-status refill.Busy = refl
+refill-status refill.GenerationsSpent = refl
+refill-status refill.Disk = refl
 
 -- such failures are ones of a relay, and no wrong usage
 behind-of-relay : (failure : Failure) → IsAfterAddresses failure → IsOfRelay failure
@@ -186,76 +169,52 @@ module _ {D W : Type 0} (disk_of : D → Disk) (contents : W → Option (List �
         broken = λ output. absurd (desk-no-output failure named output);
       })
 
-  pub frames-relayed : (new : EndpointValue D) (after : W) (first second controlled common : WireState)
-      (result : Result Status Failure)
-      → first ≡ new_wire → second ≡ new_wire
-      → IfOk result (λ status. (summary : RelaySummary)
-      × IsRun disk_of course (relay_of old first second empty_lane empty_lane) (Ok summary) new controlled common
-      × Appends (contents before) (contents after) (relay_line summary) × (status ≡ ends.Done))
-      → IfErr result (λ failure.
-      EndsRelay disk_of course (relay_of old first second empty_lane empty_lane) failure new controlled common)
-      → IfErr result (λ failure. failure ≢ failures.Output → after ≡ before)
-      → IfErr result (λ failure. failure ≡ failures.Output → has_failed after ≡ true)
+  -- between two new wires, it ran and was reported
+  pub frames-relayed : (answer : Result RelaySummary RefillFault) (new : EndpointValue D) (controlled common : WireState)
+      (result : Result Status Failure) (after : W)
+      → IsRun disk_of course (relay_of old new_wire new_wire empty_lane empty_lane) answer new controlled common
+      → Reports contents has_failed answer before result after
       → DoesRelay disk_of contents has_failed course old before result new after
-  frames-relayed new after first second controlled common (Ok status) one other (summary, relayed, printed, is) ended
-      silent broken = record {
-        printed = (
-          summary,
-          between-new disk_of course summary old new first second controlled common one other relayed,
-          printed,
-          is,
-        );
-        ended = tt;
-        failed = tt;
-        silent = tt;
-        broken = tt;
-      }
-  frames-relayed new after first second controlled common (Err failure) one other relayed ended silent broken = record {
-    printed = tt;
-    ended = inr (ends-new disk_of course old new first second controlled common failure one other ended);
-    failed = ends-behind disk_of course (relay_of old first second empty_lane empty_lane) failure new controlled
-        common ended;
-    silent = silent;
-    broken = broken;
+  frames-relayed (Ok summary) new controlled common (Ok status) after runs (printed, failed) = record {
+    printed = (
+      summary,
+      record { controlled = controlled; common = common; relayed = runs },
+      printed.0,
+      printed.1,
+    );
+    ended = tt;
+    failed = tt;
+    silent = tt;
+    broken = tt;
   }
+  frames-relayed (Ok summary) new controlled common (Err failure) after runs (printed, (is, broken)) = record {
+    printed = tt;
+    ended = inr (record { controlled = controlled; common = common; ends = inr (is, summary, runs) });
+    failed = subst IsAfterAddresses (sym is) tt;
+    silent = λ other. absurd (other is);
+    broken = λ output. broken;
+  }
+  frames-relayed (Err fault) new controlled common result after runs (is, silent) =
+      subst (λ (r : Result Status Failure). DoesRelay disk_of contents has_failed course old before r new after)
+      (sym is) (record {
+        printed = tt;
+        ended = inr (record { controlled = controlled; common = common; ends = inl (fault, refl, runs) });
+        failed = refill-behind fault;
+        silent = λ other. silent;
+        broken = λ output. absurd (let e = sym (refill-status fault) ∙ ap failure_status output in cc);
+      })
 
-module _ {D W : Type 0} (disk_of : D → Disk) (contents : W → Option (List ℕ)) (has_failed : W → Bool) (turns : ℕ)
-    (old : EndpointValue D) (before : W) where
-  -- one that is attended, between two wires that are new
-  pub frames-attended : (new : EndpointValue D) (after : W) (first second controlled common : WireState)
-      (result : Result Status Failure)
-      → first ≡ new_wire → second ≡ new_wire
-      → IfOk result (λ status. (summary : RelaySummary) × (events : List DeskEvent)
-      × IsAttended disk_of turns (relay_of old first second empty_lane empty_lane) events (Ok summary) new
-      controlled common
-      × Appends (contents before) (contents after) (relay_line summary) × (status ≡ ends.Done))
-      → IfErr result (λ failure. EndsRelay disk_of (attended turns) (relay_of old first second empty_lane empty_lane)
-      failure new controlled common)
-      → IfErr result (λ failure. failure ≢ failures.Output → after ≡ before)
-      → IfErr result (λ failure. failure ≡ failures.Output → has_failed after ≡ true)
-      → DoesRelay disk_of contents has_failed (attended turns) old before result new after
-  frames-attended new after first second controlled common (Ok status) one other (summary, events, attends, printed, is)
-      ended silent broken =
-      frames-relayed disk_of contents has_failed (attended turns) old before new after first second controlled common
-      (Ok status) one other
-      (summary, (events, attends), printed, is) ended silent broken
-  frames-attended new after first second controlled common (Err failure) one other attends ended silent broken =
-      frames-relayed disk_of contents has_failed (attended turns) old before new after first second controlled common
-      (Err failure) one other
-      tt ended silent broken
-
--- a relay that is run as the words want it
+-- a relay that runs as the words request
 pub as-wanted : {D W : Type 0} (disk_of : D → Disk) (contents : W → Option (List ℕ)) (has_failed : W → Bool)
-    (running : Running) (is : Bool) (turns : ℕ) (old : EndpointValue D) (before : W) (result : Result Status Failure)
+    (running : Running) (is : Bool) (old : EndpointValue D) (before : W) (result : Result Status Failure)
     (new : EndpointValue D) (after : W)
-    → is ≡ is_attended running → turns ≡ turns_of running.pace
-    → DoesRelay disk_of contents has_failed (record { attended = is; turns = turns }) old before result new after
+    → is ≡ is_attended running
+    → DoesRelay disk_of contents has_failed (record { attended = is; turns = turns_of running.pace }) old before result
+    new after
     → DoesRelay disk_of contents has_failed (course_of running) old before result new after
-as-wanted disk_of contents has_failed running is turns old before result new after is_so so_many does =
+as-wanted disk_of contents has_failed running is old before result new after same does =
     subst (λ (b : Bool). DoesRelay disk_of contents has_failed
-    (record { attended = b; turns = turns_of running.pace }) old before result new after) is_so
-    (subst (λ (n : ℕ). DoesRelay disk_of contents has_failed (record { attended = is; turns = n }) old before result new
-    after) so_many does)
+    (record { attended = b; turns = turns_of running.pace }) old before result new after) same does
 
 -- ---- what `relay` comes to
 

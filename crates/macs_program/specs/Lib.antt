@@ -6,7 +6,6 @@ pub mod Capturing
 pub mod Endpoints
 pub mod Judging
 pub mod Relaying
-pub mod Watching
 pub mod Tasks
 pub mod Asking
 pub mod About

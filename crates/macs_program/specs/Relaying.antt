@@ -1,7 +1,7 @@
 -- The result of a relay of the program, and how it ends.
-use Rattle.std.specs.Prelude.{◌≡◌, ◌⊎◌, ◌-◌, ◌^◌, ◌||◌, ⊤, ℕ, Bool, true, false, List, [], None, Some, is_some, Result}
-use Rattle.std.specs.Prelude.{Ok}
-use Rattle.std.specs.Prelude.{Err}
+use Rattle.std.specs.Prelude.{◌≡◌, ◌⊎◌, ◌-◌, ◌^◌, ◌||◌, ⊤, ℕ, Bool, true, false, List, [], Option, None, Some, is_some}
+use Rattle.std.specs.Prelude.{IfErr, IfOk, Result, Ok, Err}
+use Rattle.std.specs.Io.KnownBytes.{Appends}
 use Rattle.macs_disk.specs.Disk.{Disk}
 use Rattle.macs_disk.specs.FileDisks.{disk_in_file}
 use Rattle.macs_disk.specs.Files.{FileState}
@@ -13,6 +13,7 @@ use Rattle.macs_edge.specs.Wires.{WireState}
 use Rattle.macs_edge.specs.declared.relaying.RelaySummary.{RelaySummary}
 use Rattle.macs_endpoint.specs.Value.{EndpointValue}
 use Rattle.macs_endpoint.specs.declared.fault.RefillFault.{RefillFault}
+use Rattle.macs_cli.specs.declared.words.pace.Milliseconds.{Milliseconds}
 use Rattle.macs_cli.specs.declared.words.pace.Pace.{Pace}
 use Rattle.macs_cli.specs.declared.words.pace.Running.{Running}
 use Rattle.macs_cli.specs.declared.words.pace.Pace.TheVariants.{Sleepless, Waiting}
@@ -21,6 +22,9 @@ use Rattle.macs_cli.specs.Failing.{failure_of_refill}
 use Rattle.macs_offline.specs.Trying.{LookFails, TriesIn}
 use Rattle.macs_cli.specs.declared.failure.Failure.{Failure}
 use Rattle.macs_cli.specs.declared.failure.Failure.TheVariants as failures
+use Rattle.macs_cli.specs.declared.status.Status.{Status}
+use Rattle.macs_cli.specs.declared.status.Status.TheVariants as ends
+use Rattle.macs_program.specs.Summing.{relay_line}
 
 -- the state of a new UDP wire: no call of it failed, and its frames are not known
 abbrev pub new_wire : WireState
@@ -36,6 +40,11 @@ turns_of (Waiting limit (Some turns)) = turns
 abbrev pub left_out : Pace → ℕ
 left_out (Sleepless turns) = 0
 left_out (Waiting limit turns) = 7
+
+-- the longest sleep of a relay, if it sleeps
+abbrev pub limit_of : Pace → Option Milliseconds
+limit_of (Sleepless turns) = None
+limit_of (Waiting limit turns) = Some limit
 
 -- the configuration of a relay: whether a desk attends it, and its maximum number of turns
 pub record Course : Type 0 where
@@ -91,6 +100,16 @@ EndsRelay disk_of course old failure endpoint controlled common =
     × IsRun disk_of course old (Err fault) endpoint controlled common)
     ⊎ ((failure ≡ failures.Output)
     × (summary : RelaySummary) × IsRun disk_of course old (Ok summary) endpoint controlled common)
+
+-- how the answer of a relay is reported: its summary is printed, or that print fails; or its fault is the failure, and
+-- nothing is printed
+abbrev pub Reports : {W : Type 0} → (W → Option (List ℕ)) → (W → Bool) → Result RelaySummary RefillFault → W
+    → Result Status Failure → W → Type 0
+Reports contents has_failed (Ok summary) before result after =
+    IfOk result (λ status. Appends (contents before) (contents after) (relay_line summary) × (status ≡ ends.Done))
+    × IfErr result (λ failure. (failure ≡ failures.Output) × (has_failed after ≡ true))
+Reports contents has_failed (Err fault) before result after =
+    (result ≡ Err (failure_of_refill fault)) × (after ≡ before)
 
 -- the failures that `relay` ends with: an address, the disk, a wire, the control socket, memory and standard output,
 -- but no capture, command file or input

@@ -36,8 +36,10 @@ use Rattle.macs_program.specs.Summing.{pass_status, relay_line, summary_line}
 use Rattle.macs_cli.specs.Values.{SpellsIdentity, SpellsLayout, ValueFaultHolds, value_faults}
 use Rattle.macs_cli.specs.Words.{AreRefused, AsksFor, AsksForNothing, Names, macsecd}
 use Rattle.macs_cli.specs.declared.words.action.Action.{Action}
-use Rattle.macs_cli.specs.declared.words.action.Action.TheVariants.{Open, Format, Apply, Show, Protect, Validate, Relay}
-use Rattle.macs_cli.specs.declared.words.action.Action.TheVariants.{Ask, Key, Inspect, Check, Plan, Examine, About}
+use Rattle.macs_cli.specs.declared.words.action.Action.TheVariants.{Open, OnDisk, OnFrames, Tool}
+use Rattle.macs_cli.specs.declared.words.action.DiskAction.TheVariants.{Format, Apply, Show}
+use Rattle.macs_cli.specs.declared.words.action.FrameAction.TheVariants.{Protect, Validate, Relay}
+use Rattle.macs_cli.specs.declared.words.action.ToolAction.TheVariants.{Ask, Key, Inspect, Check, Plan, Examine, About}
 use Rattle.macs_cli.specs.declared.addresses.AddressFault.{AddressFault}
 use Rattle.macs_offline.specs.declared.opened.Opened.{Opened}
 use Rattle.macs_cli.specs.declared.failure.Failure.{Failure}
@@ -62,37 +64,37 @@ Prints input before after status =
 abbrev pub Does : {F : Type 0} → (F → FileState) → (F → Option (List ℕ)) → Action → InputRead → Option (List ℕ)
     → Option (List ℕ) → Status → Type 0
 Does state_of left_in Open input before after status = IfSome input.octets (λ octets. Prints octets before after status)
-Does state_of left_in (Format disk sci tx_block rx_block block is_over) input before after status =
+Does state_of left_in (OnDisk (Format disk sci tx_block rx_block block is_over)) input before after status =
     (identity : Identity) × SpellsIdentity sci.now tx_block rx_block identity
     × (layout : Layout) × SpellsLayout (option_map (λ text. text.now) block) layout
     × Formats state_of is_over layout identity
     × Appends before after (line (codes "formatted")) × (status ≡ ends.Done)
-Does state_of left_in (Apply disk file) input before after status =
+Does state_of left_in (OnDisk (Apply disk file)) input before after status =
     AppliesIn state_of left_in before after status
-Does state_of left_in (Show disk) input before after status = ShowsIn state_of before after × (status ≡ ends.Done)
-Does state_of left_in (Protect disk from to is_all) input before after status =
+Does state_of left_in (OnDisk (Show disk)) input before after status = ShowsIn state_of before after × (status ≡ ends.Done)
+Does state_of left_in (OnFrames (Protect disk from to is_all)) input before after status =
     (summary : Summary) × PassesIn state_of Controlled summary
     × Appends before after (summary_line Controlled summary) × (status ≡ pass_status is_all summary)
-Does state_of left_in (Validate disk from to is_all false) input before after status =
+Does state_of left_in (OnFrames (Validate disk from to is_all false)) input before after status =
     (summary : Summary) × PassesIn state_of Common summary
     × Appends before after (summary_line Common summary) × (status ≡ pass_status is_all summary)
-Does state_of left_in (Validate disk from to is_all true) input before after status =
+Does state_of left_in (OnFrames (Validate disk from to is_all true)) input before after status =
     (summary : Summary) × (verdicts : List Verdict) × JudgesIn state_of summary verdicts
     × Appends before after (verdict_lines 1 verdicts ++ summary_line Common summary)
     × (status ≡ pass_status is_all summary)
-Does state_of left_in (Relay disk controlled common running) input before after status =
+Does state_of left_in (OnFrames (Relay disk controlled common running)) input before after status =
     (summary : RelaySummary) × ComesTo state_of (course_of running) summary × SpellsBoth controlled common
     × Appends before after (relay_line summary) × (status ≡ ends.Done)
-Does state_of left_in (Ask path asked is_json) input before after status =
+Does state_of left_in (Tool (Ask path asked is_json)) input before after status =
     PrintsAnswer asked is_json before after status
-Does state_of left_in (Key is_long) input before after status = GivesKey is_long before after × (status ≡ ends.Done)
-Does state_of left_in (Inspect from) input before after status = Inspects before after × (status ≡ ends.Done)
-Does state_of left_in (Check file disk) input before after status = Checks state_of left_in disk before after status
-Does state_of left_in (Plan file end stage) input before after status =
+Does state_of left_in (Tool (Key is_long)) input before after status = GivesKey is_long before after × (status ≡ ends.Done)
+Does state_of left_in (Tool (Inspect from)) input before after status = Inspects before after × (status ≡ ends.Done)
+Does state_of left_in (Tool (Check file disk)) input before after status = Checks state_of left_in disk before after status
+Does state_of left_in (Tool (Plan file end stage)) input before after status =
     PrintsPlan left_in (end_of end) (stage_of stage) before after × (status ≡ ends.Done)
-Does state_of left_in (Examine disk is_json) input before after status =
+Does state_of left_in (Tool (Examine disk is_json)) input before after status =
     PrintsExamined state_of is_json before after status
-Does state_of left_in About input before after status = Appends before after about_text × (status ≡ ends.Done)
+Does state_of left_in (Tool About) input before after status = Appends before after about_text × (status ≡ ends.Done)
 
 -- a run that does not fail prints help on request, or its words are accepted and name an action, which it carries out
 abbrev pub Replies : {F : Type 0} → (F → FileState) → (F → Option (List ℕ)) → List Text → InputRead
@@ -106,18 +108,18 @@ Replies state_of left_in words input before after status =
 -- What was printed before a failure: for `apply` and `ask PATH apply` the lines of the commands before it, for
 -- `inspect` those of the frames before it, for `validate --each` those of the verdicts before it, else nothing
 abbrev pub HasPrinted : Action → Option (List ℕ) → Option (List ℕ) → Type 0
-HasPrinted (Apply disk file) before after = (outcomes : List (Option Refusal))
+HasPrinted (OnDisk (Apply disk file)) before after = (outcomes : List (Option Refusal))
     × Appends before after (outcome_lines 1 outcomes)
-HasPrinted (Validate disk from to is_all true) before after = PrintsVerdicts before after
-HasPrinted (Ask path asked is_json) before after = PrintsFront asked before after
-HasPrinted (Inspect from) before after = PrintsFrames before after
+HasPrinted (OnFrames (Validate disk from to is_all true)) before after = PrintsVerdicts before after
+HasPrinted (Tool (Ask path asked is_json)) before after = PrintsFront asked before after
+HasPrinted (Tool (Inspect from)) before after = PrintsFrames before after
 HasPrinted action before after = after ≡ before
 
 -- a value of the action is not accepted
 abbrev pub WrongValues : Action → Type 0
-WrongValues (Format disk sci tx_block rx_block block is_over) =
+WrongValues (OnDisk (Format disk sci tx_block rx_block block is_over)) =
     (fault : ValueFault) × ValueFaultHolds sci.now tx_block rx_block (option_map (λ text. text.now) block) fault
-WrongValues (Relay disk controlled common running) = (fault : AddressFault) × AddressFaultHolds controlled common fault
+WrongValues (OnFrames (Relay disk controlled common running)) = (fault : AddressFault) × AddressFaultHolds controlled common fault
 WrongValues action = ⊥
 
 -- How `open` fails: a read failed, or the input, of which at most 20,001 octets are read, has this first fault; or
@@ -134,62 +136,37 @@ OpenFails input failure =
 abbrev pub FailsAs : {F : Type 0} → (F → FileState) → (F → Option (List ℕ)) → Action → InputRead → Option (List ℕ)
     → Option (List ℕ) → Failure → Type 0
 FailsAs state_of left_in Open input before after failure = OpenFails input failure
-FailsAs state_of left_in (Format disk sci tx_block rx_block block is_over) octets before after failure =
+FailsAs state_of left_in (OnDisk (Format disk sci tx_block rx_block block is_over)) octets before after failure =
     ((fault : ValueFault) × (failure ≡ Value fault)
     × IsFirst (ValueFaultHolds sci.now tx_block rx_block (option_map (λ text. text.now) block)) value_faults fault)
     ⊎ ((identity : Identity) × SpellsIdentity sci.now tx_block rx_block identity
     × FormatFails state_of is_over identity failure)
     ⊎ (failure ≡ Output)
-FailsAs state_of left_in (Apply disk file) octets before after failure = OpeningFails state_of failure
+FailsAs state_of left_in (OnDisk (Apply disk file)) octets before after failure = OpeningFails state_of failure
     ⊎ BreaksOffIn state_of left_in before after failure
-FailsAs state_of left_in (Show disk) octets before after failure = OpeningFails state_of failure ⊎ (failure ≡ Memory)
+FailsAs state_of left_in (OnDisk (Show disk)) octets before after failure = OpeningFails state_of failure ⊎ (failure ≡ Memory)
     ⊎ (failure ≡ Output)
-FailsAs state_of left_in (Protect disk from to is_all) octets before after failure = OpeningFails state_of failure
+FailsAs state_of left_in (OnFrames (Protect disk from to is_all)) octets before after failure = OpeningFails state_of failure
     ⊎ PassEndsIn state_of Controlled failure
-FailsAs state_of left_in (Validate disk from to is_all false) octets before after failure =
+FailsAs state_of left_in (OnFrames (Validate disk from to is_all false)) octets before after failure =
     OpeningFails state_of failure
     ⊎ PassEndsIn state_of Common failure
-FailsAs state_of left_in (Validate disk from to is_all true) octets before after failure = OpeningFails state_of failure
+FailsAs state_of left_in (OnFrames (Validate disk from to is_all true)) octets before after failure = OpeningFails state_of failure
     ⊎ JudgingEndsIn state_of failure
-FailsAs state_of left_in (Relay disk controlled common running) octets before after failure =
+FailsAs state_of left_in (OnFrames (Relay disk controlled common running)) octets before after failure =
     ((fault : AddressFault) × (failure ≡ Address fault)
     × IsFirst (AddressFaultHolds controlled common) address_faults fault)
     ⊎ IsUnbound state_of failure ⊎ OpeningFails state_of failure
     ⊎ RelayEndsIn state_of (course_of running) failure
-FailsAs state_of left_in (Ask path asked is_json) octets before after failure = AskFails path.now asked failure
-FailsAs state_of left_in (Key is_long) octets before after failure = IsOfKey failure
-FailsAs state_of left_in (Inspect from) octets before after failure = InspectFails from.now before after failure
-FailsAs state_of left_in (Check file disk) octets before after failure =
+FailsAs state_of left_in (Tool (Ask path asked is_json)) octets before after failure = AskFails path.now asked failure
+FailsAs state_of left_in (Tool (Key is_long)) octets before after failure = IsOfKey failure
+FailsAs state_of left_in (Tool (Inspect from)) octets before after failure = InspectFails from.now before after failure
+FailsAs state_of left_in (Tool (Check file disk)) octets before after failure =
     CheckEnds state_of left_in file.now disk failure
-FailsAs state_of left_in (Plan file end stage) octets before after failure =
+FailsAs state_of left_in (Tool (Plan file end stage)) octets before after failure =
     PlanFails left_in file.now (end_of end) (stage_of stage) failure
-FailsAs state_of left_in (Examine disk is_json) octets before after failure = ExamineFails state_of disk.now failure
-FailsAs state_of left_in About octets before after failure = (failure ≡ Memory) ⊎ (failure ≡ Output)
-
--- the action reads no standard input and opens no disk file for writing
-abbrev pub is_apart : Action → Bool
-is_apart (Ask path asked is_json) = true
-is_apart (Key is_long) = true
-is_apart (Inspect from) = true
-is_apart (Check file disk) = true
-is_apart (Plan file end stage) = true
-is_apart (Examine disk is_json) = true
-is_apart About = true
-is_apart action = false
-
--- the action has an endpoint and gives it no frames
-abbrev pub is_on_disk : Action → Bool
-is_on_disk (Format disk sci tx_block rx_block block is_over) = true
-is_on_disk (Apply disk file) = true
-is_on_disk (Show disk) = true
-is_on_disk action = false
-
--- the action gives frames to an endpoint
-abbrev pub is_on_frames : Action → Bool
-is_on_frames (Protect disk from to is_all) = true
-is_on_frames (Validate disk from to is_all is_each) = true
-is_on_frames (Relay disk controlled common running) = true
-is_on_frames action = false
+FailsAs state_of left_in (Tool (Examine disk is_json)) octets before after failure = ExamineFails state_of disk.now failure
+FailsAs state_of left_in (Tool About) octets before after failure = (failure ≡ Memory) ⊎ (failure ≡ Output)
 
 -- An action is carried out, with one of these two statuses, or fails. A usage failure is that of a wrong value, and
 -- nothing was printed; a disk failure is that of another action than `open`; and an output failure is that of a print

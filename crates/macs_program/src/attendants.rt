@@ -4,8 +4,9 @@ ghost use Rattle.std.specs.Prelude.{◌≡◌, ◌⊎◌, IfErr};
 
 use crate::build::this_program;
 use crate::counters_name::refuse_other_file;
+use crate::pacing::limit_of;
 use crate::relay_system::RelaySystem;
-use macs_cli::{Failure, Pace, Running};
+use macs_cli::{Failure, Running};
 use macs_control::desk::ControlDesk;
 use macs_control::{ControlSocket, MetricsPlace, Wires, remove_name};
 use macs_offline::KeyList;
@@ -20,14 +21,6 @@ pub type SystemDesk<'a, T> = ControlDesk<
     RelaySystem<'a, T>,
 >;
 
-/// The longest sleep of a relay, in milliseconds: 0 if it does not sleep.
-fn limit_of(pace: Pace) -> u16 {
-    match pace {
-        Pace::Sleepless { .. } => 0,
-        Pace::Waiting { limit, .. } => limit.0,
-    }
-}
-
 /// The control socket, if the words name one, watched with the sockets of both wires. Fails with
 /// `Memory`, or with `Control` if it cannot be bound.
 fn clients_for<'a, T: Files + Net + Clock>(
@@ -38,7 +31,10 @@ fn clients_for<'a, T: Files + Net + Clock>(
 ) -> Result<ControlSocket<'a, T>, Failure>
     ensures { IfErr result (λ failure. (failure ≡ Failure.Memory) ⊎ (failure ≡ Failure.Control)) }
 {
-    let limit = limit_of(running.pace);
+    let limit = match limit_of(running.pace) {
+        Some(limit) => limit.0,
+        None => 0,
+    };
     let clients = ControlSocket::bind(rt, alloc, running.control, wires, limit)?;
     Ok(clients)
 }

@@ -65,3 +65,23 @@ where
         make_capture(self.rt, self.alloc, path)
     }
 }
+
+/// The captures of a run. INPUT is opened first, and OUTPUT is created only if that succeeds.
+pub fn open_both<C: Captures>(
+    captures: &mut C,
+    from: &str,
+    to: &str,
+) -> Result<(C::Input, C::Output), Failure>
+    ensures order { OnOk result (Asks (C.asked captures.old) (C.asked captures.new)
+        (Opens from.now true ∷ Makes to.now true ∷ [])) }
+    ensures front { OnErr result
+        (Asks (C.asked captures.old) (C.asked captures.new) (Opens from.now false ∷ [])
+        ⊎ Asks (C.asked captures.old) (C.asked captures.new)
+        (Opens from.now true ∷ Makes to.now false ∷ [])) }
+    ensures failed { IfErr result
+        (λ failure. (failure ≡ Failure.Memory) ⊎ (failure ≡ Failure.Capture)) }
+{
+    let source = captures.open(from)?;
+    let sink = captures.make(to)?;
+    Ok((source, sink))
+}

@@ -5,16 +5,25 @@ ghost use Rattle.std.specs.Io.KnownBytes.{Appends};
 ghost use Rattle.macs_edge.specs.CaptureRuns.{RunsOver, run_of};
 ghost use Rattle.macs_edge.specs.declared.capture_runs.RunFault.{RunFault};
 ghost use Rattle.macs_edge.specs.declared.capture_runs.Summary.{Summary};
+ghost use Rattle.macs_program.specs.CaptureFiles.{AsksInOrder};
 ghost use Rattle.macs_program.specs.Capturing.{EndsFlushed, EndsPass, PassesCapture};
+ghost use Rattle.macs_program.specs.Endpoints.{PassEndsIn, PassesIn};
 ghost use Rattle.macs_cli.specs.Failing.{IsNotBusyRun, failure_of_run, failure_status};
+ghost use Rattle.macs_offline.specs.Openings.{OpeningFails};
 ghost use Rattle.macs_program.specs.Summing.{pass_status, summary_line};
+ghost use Rattle.macs_program.specs.Tasks.{DoesPass};
 
-use macs_cli::{Failure, Line, Status, Stream, append_count, failure_of_run, print_octets};
+use crate::captures::{Captures, SystemCaptures, open_both};
+use crate::task::{Task, with_file};
+use macs_cli::{
+    CaptureFile, Failure, Line, Status, Stream, append_count, failure_of_run, print_octets,
+};
 use macs_disk::SectorDisk;
 use macs_edge::{RunFault, Side, Summary, run_protect, run_validate};
 use macs_endpoint::Endpoint;
 use macs_pcap::{Sink, Source};
 use std::alloc::Global;
+use std::rt::Files;
 
 /// The last line of a run.
 pub(crate) fn summary_line(side: Side, summary: Summary) -> Line
@@ -123,7 +132,7 @@ fn run_capture<D: SectorDisk, R: Source, W: Sink>(
 /// or a record, with `Disk` at a reservation; without a fault, with `Capture` if what was written
 /// cannot be flushed. Nothing is printed then. Otherwise fails with `Output` if the line cannot be
 /// written. No command is pending.
-pub fn pass_frames<D: SectorDisk, R: Source, S: Sink, W: Stream>(
+fn pass_frames<D: SectorDisk, R: Source, S: Sink, W: Stream>(
     alloc: Global,
     endpoint: &mut Endpoint<D>,
     side: Side,
@@ -148,4 +157,94 @@ pub fn pass_frames<D: SectorDisk, R: Source, S: Sink, W: Stream>(
     let summary = run_capture(alloc, endpoint, side, source, sink)?;
     print_octets(out, summary_line(side, summary).as_slice())?;
     Ok(pass_status(is_all, summary))
+}
+
+/// Passes a capture through an endpoint into another capture.
+fn pass_between<C: Captures, D: SectorDisk, W: Stream>(
+    captures: &mut C,
+    alloc: Global,
+    endpoint: &mut Endpoint<D>,
+    side: Side,
+    is_all: bool,
+    from: &str,
+    to: &str,
+    out: &mut W,
+) -> Result<Status, Failure>
+    requires { endpoint.old.waiting ≡ [] }
+    ensures asks { AsksInOrder from.now to.now (C.asked captures.old)
+        (C.asked captures.new) result }
+    ensures passes { DoesPass D.disk W.contents W.failed side is_all endpoint.old out.old result
+        endpoint.new out.new }
+{
+    let (mut source, mut sink) = open_both(captures, from, to)?;
+    pass_frames(alloc, endpoint, side, is_all, &mut source, &mut sink, out)
+}
+
+/// Passes a capture in a file through an endpoint into another file.
+#[derive(Drop)]
+struct PassFile<'a, T> {
+    rt: &'a T,
+    alloc: Global,
+    side: Side,
+    is_all: bool,
+    from: &'a str,
+    to: &'a str,
+}
+
+impl<T: Files, D: SectorDisk, W: Stream> Task<D, W> for PassFile<'_, T>
+where
+    T::File: CaptureFile,
+{
+    ghost does = { λ task. DoesPass D.disk W.contents W.failed task.side task.is_all };
+
+    #[inline(never)]
+    fn run(self, endpoint: &mut Endpoint<D>, out: &mut W) -> Result<Status, Failure> {
+        let alloc = self.alloc;
+        let mut captures = SystemCaptures { rt: self.rt, alloc };
+        pass_between(
+            &mut captures,
+            alloc,
+            endpoint,
+            self.side,
+            self.is_all,
+            self.from,
+            self.to,
+            out,
+        )
+    }
+}
+
+/// `protect` and `validate`: passes a capture through an endpoint.
+#[inline(never)]
+pub fn pass<'a, T: Files, W: Stream>(
+    rt: &'a T,
+    alloc: Global,
+    side: Side,
+    is_all: bool,
+    disk: &str,
+    from: &'a str,
+    to: &'a str,
+    out: &mut W,
+) -> Result<Status, Failure>
+where
+    T::File: CaptureFile,
+    ensures printed { IfOk result (λ status. (summary : Summary)
+        × PassesIn T.File.file side summary
+        × Appends (W.contents out.old) (W.contents out.new) (summary_line side summary)
+        × (status ≡ pass_status is_all summary)) }
+    ensures ended { IfErr result (λ failure. OpeningFails T.File.file failure
+        ⊎ PassEndsIn T.File.file side failure) }
+    ensures failed { IfErr result (λ failure. failure_status failure ≢ Status.Usage) }
+    ensures silent { IfErr result (λ failure. failure ≢ Failure.Output → out.new ≡ out.old) }
+    ensures broken { IfErr result (λ failure. failure ≡ Failure.Output → W.failed out.new ≡ true) }
+{
+    let task = PassFile {
+        rt,
+        alloc,
+        side,
+        is_all,
+        from,
+        to,
+    };
+    with_file(rt, alloc, disk, task, out)
 }

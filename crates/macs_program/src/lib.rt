@@ -2,23 +2,28 @@
 #![tactic(auto)]
 
 mod about;
+mod apply;
 mod asking;
 mod attendants;
 mod build;
 mod captures;
 mod capturing;
 mod counters_name;
+mod format;
 mod input;
 mod judging;
 pub mod laws;
 mod new_disk;
-mod on_disk;
 pub mod overruns;
+mod pacing;
+mod relay;
 mod relay_system;
 mod relaying;
 pub mod run;
+mod show;
 mod socket_reason;
-mod watch;
+mod task;
+mod wires;
 
 pub use input::{Input, InputText, ReadFailed, ReaderInput};
 pub use macs_cli::{CaptureFile, Failure, WriterStream};

@@ -11,7 +11,6 @@ ghost use Rattle.macs_program.specs.Run.{Acts, FailsFor, HasPrinted, HasWrongVal
 ghost use Rattle.macs_program.specs.Run.{Performs, PrintedBefore, Prints};
 ghost use Rattle.macs_program.specs.Run.{PrintsUnlessFailed, Replies, complaint};
 ghost use Rattle.macs_cli.specs.Statuses.{code_of};
-ghost use Rattle.macs_program.specs.Run.{is_apart, is_on_disk, is_on_frames};
 ghost use Rattle.macs_cli.specs.Words.{AreRefused, AsksForNothing, Names, macsecd, texts};
 ghost use Rattle.macs_cli.specs.declared.words.action.Action.{Action};
 ghost use Rattle.macs_cli.specs.declared.failure.Failure.{Failure};
@@ -19,12 +18,17 @@ ghost use Rattle.macs_cli.specs.declared.failure.LinkRefusal.{LinkRefusal};
 ghost use Rattle.macs_cli.specs.declared.status.Status.{Status};
 
 use crate::about::about;
+use crate::apply::apply;
 use crate::asking::ask;
+use crate::capturing::pass;
+use crate::format::format;
 use crate::input::{Input, InputText};
-use crate::on_disk::{apply, format, judge, pass, relay, show};
+use crate::judging::judge;
+use crate::relay::relay;
+use crate::show::show;
 use macs_cli::{
-    Action, CaptureFile, Failure, InputFault, PrintFailed, Status, Stream, action_of, print,
-    topic_of,
+    Action, CaptureFile, DiskAction, Failure, FrameAction, InputFault, PrintFailed, Status, Stream,
+    ToolAction, action_of, print, topic_of,
 };
 use macs_commands::secrets::wipe;
 use macs_edge::Side;
@@ -98,68 +102,27 @@ where
 {
     match action {
         Action::Open => open_input(alloc, input, out),
-        Action::Format { .. } | Action::Apply { .. } | Action::Show { .. } => {
-            perform_on_disk(rt, alloc, action, out)
-        }
-        Action::Protect { .. } | Action::Validate { .. } | Action::Relay { .. } => {
-            perform_on_frames(rt, alloc, action, out)
-        }
-        Action::Ask { .. }
-        | Action::Key { .. }
-        | Action::Inspect { .. }
-        | Action::Check { .. }
-        | Action::Plan { .. }
-        | Action::Examine { .. }
-        | Action::About => perform_apart(rt, alloc, action, out),
+        Action::OnDisk(action) => perform_on_disk(rt, alloc, action, out),
+        Action::OnFrames(action) => perform_on_frames(rt, alloc, action, out),
+        Action::Tool(action) => perform_tool(rt, alloc, action, out),
     }
 }
 
-/// Carries out an action that reads no standard input and opens no disk file for writing.
-fn perform_apart<T: Files + Net + RandomSource, W: Stream>(
-    rt: &T,
-    alloc: Global,
-    action: Action,
-    out: &mut W,
-) -> Result<Status, Failure>
-where
-    T::File: CaptureFile,
-    requires { is_apart action ≡ true }
-    ensures { (input : InputRead)
-        → Performs T.File.file T.File.remaining W.contents W.failed action.entry input out.old
-        result out.new }
-{
-    match action {
-        Action::Ask {
-            path,
-            question,
-            is_json,
-        } => ask(rt, alloc, path, question, is_json, out),
-        Action::Key { is_long } => key(rt, is_long, out),
-        Action::Inspect { input: from } => inspect(rt, alloc, from, out),
-        Action::Check { file, disk } => check(rt, alloc, file, disk, out),
-        Action::Plan { file, end, stage } => plan(rt, alloc, file, end, stage, out),
-        Action::Examine { disk, is_json } => examine(rt, alloc, disk, is_json, out),
-        Action::About => about(alloc, out),
-        _ => unreachable!(),
-    }
-}
-
-/// Carries out an action that has an endpoint and gives it no frames.
+/// Carries out an action on an endpoint, without frames.
 fn perform_on_disk<T: Files, W: Stream>(
     rt: &T,
     alloc: Global,
-    action: Action,
+    action: DiskAction,
     out: &mut W,
 ) -> Result<Status, Failure>
 where
     T::File: CaptureFile,
-    requires { is_on_disk action ≡ true }
     ensures { (input : InputRead)
-        → Performs T.File.file T.File.remaining W.contents W.failed action.entry input out.old
-        result out.new }
+        → Performs T.File.file T.File.remaining W.contents W.failed (Action.OnDisk action.entry)
+        input out.old result out.new }
 {
     match action {
-        Action::Format {
+        DiskAction::Format {
             disk,
             sci,
             tx_block,
@@ -169,9 +132,8 @@ where
         } => format(
             rt, alloc, disk, sci, tx_block, rx_block, block, is_over, out,
         ),
-        Action::Apply { disk, file } => apply(rt, alloc, disk, file, out),
-        Action::Show { disk } => show(rt, alloc, disk, out),
-        _ => unreachable!(),
+        DiskAction::Apply { disk, file } => apply(rt, alloc, disk, file, out),
+        DiskAction::Show { disk } => show(rt, alloc, disk, out),
     }
 }
 
@@ -179,24 +141,23 @@ where
 fn perform_on_frames<T: Files + Net + Clock + Env, W: Stream>(
     rt: &T,
     alloc: Global,
-    action: Action,
+    action: FrameAction,
     out: &mut W,
 ) -> Result<Status, Failure>
 where
     T::File: CaptureFile,
-    requires { is_on_frames action ≡ true }
     ensures { (input : InputRead)
-        → Performs T.File.file T.File.remaining W.contents W.failed action.entry input out.old
-        result out.new }
+        → Performs T.File.file T.File.remaining W.contents W.failed (Action.OnFrames action.entry)
+        input out.old result out.new }
 {
     match action {
-        Action::Protect {
+        FrameAction::Protect {
             disk,
             input: from,
             output: to,
             is_all,
         } => pass(rt, alloc, Side::Controlled, is_all, disk, from, to, out),
-        Action::Validate {
+        FrameAction::Validate {
             disk,
             input: from,
             output: to,
@@ -209,13 +170,40 @@ where
                 pass(rt, alloc, Side::Common, is_all, disk, from, to, out)
             }
         }
-        Action::Relay {
+        FrameAction::Relay {
             disk,
             controlled,
             common,
             running,
         } => relay(rt, alloc, disk, controlled, common, running, out),
-        _ => unreachable!(),
+    }
+}
+
+/// Carries out an action that changes no disk.
+fn perform_tool<T: Files + Net + RandomSource, W: Stream>(
+    rt: &T,
+    alloc: Global,
+    action: ToolAction,
+    out: &mut W,
+) -> Result<Status, Failure>
+where
+    T::File: CaptureFile,
+    ensures { (input : InputRead)
+        → Performs T.File.file T.File.remaining W.contents W.failed (Action.Tool action.entry) input
+        out.old result out.new }
+{
+    match action {
+        ToolAction::Ask {
+            path,
+            question,
+            is_json,
+        } => ask(rt, alloc, path, question, is_json, out),
+        ToolAction::Key { is_long } => key(rt, is_long, out),
+        ToolAction::Inspect { input: from } => inspect(rt, alloc, from, out),
+        ToolAction::Check { file, disk } => check(rt, alloc, file, disk, out),
+        ToolAction::Plan { file, end, stage } => plan(rt, alloc, file, end, stage, out),
+        ToolAction::Examine { disk, is_json } => examine(rt, alloc, disk, is_json, out),
+        ToolAction::About => about(alloc, out),
     }
 }
 

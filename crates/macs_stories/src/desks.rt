@@ -98,6 +98,8 @@ impl<D: SectorDisk, P: Wire, C: Wire> Desk<D, P, C> for Orders {
     fn answered(&mut self, ticket: Ticket, end: CommandEnd) {
         self.note(Told::Ended(ticket.get(), end));
     }
+
+    fn rest(&mut self) {}
 }
 
 /// A command that is to be submitted.

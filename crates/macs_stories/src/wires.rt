@@ -8,7 +8,7 @@ use crate::text::{Answer, Words, filled, frame_at, octets_of, tell_frame, tell_s
 use macs_commands::requests::NoMetrics;
 use macs_control::desk::{ControlDesk, NoSystem};
 use macs_edge::{
-    FaultWire, Got, Idle, MemWire, RelaySummary, Wire, WireFault, attend, relay, relay_resting,
+    FaultWire, Got, Idle, MemWire, RelaySummary, Unattended, Wire, WireFault, attend, relay,
 };
 use macs_endpoint::RefillFault;
 use macs_frame::FrameBuf;
@@ -336,21 +336,6 @@ impl Idle for Sleeper {
     }
 }
 
-fn rested(
-    endpoint: &mut Played,
-    wires: &mut Wires,
-    turns: u64,
-    idle: &mut Sleeper,
-) -> Result<RelaySummary, RefillFault> {
-    relay_resting(
-        endpoint,
-        &mut wires.controlled.front,
-        &mut wires.common.front,
-        idle,
-        turns,
-    )
-}
-
 fn attended(
     endpoint: &mut Played,
     wires: &mut Wires,
@@ -390,10 +375,19 @@ fn served(
 
 /// Frames pass between the wires through an endpoint, and the sleeps between are reported.
 fn rest_and_tell(endpoint: &mut Played, wires: &mut Wires, turns: u64, answer: &mut Answer) {
-    let mut idle = Sleeper { slept: 0 };
-    tell_relayed(rested(endpoint, wires, turns, &mut idle), answer);
+    let mut nobody = Unattended {
+        idle: Sleeper { slept: 0 },
+    };
+    let told = attend(
+        endpoint,
+        &mut wires.controlled.front,
+        &mut wires.common.front,
+        &mut nobody,
+        turns,
+    );
+    tell_relayed(told, answer);
     answer.word("slept");
-    answer.number(idle.slept);
+    answer.number(nobody.idle.slept);
 }
 
 /// `relay TURNS`, `relay-resting TURNS`, `attend TURNS`, `serve-clients TURNS`: frames pass between

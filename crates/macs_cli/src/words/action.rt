@@ -9,6 +9,17 @@ use std::alloc::AllocError;
 pub enum Action<'a> {
     /// Opens one protected frame: `open`, or no words.
     Open,
+    /// Works on an endpoint, and gives it no frames.
+    OnDisk(DiskAction<'a>),
+    /// Gives frames to an endpoint.
+    OnFrames(FrameAction<'a>),
+    /// Reads no standard input, and opens no disk file for writing.
+    Tool(ToolAction<'a>),
+}
+
+/// An action on an endpoint, without frames.
+#[derive(Clone, Copy)]
+pub enum DiskAction<'a> {
     /// Makes a disk file for an endpoint: `format DISK SCI TX RX`, optionally with `--block` and
     /// `--over`. The blocks of packet numbers are 0 to 2^32 - 1 here.
     Format {
@@ -30,6 +41,11 @@ pub enum Action<'a> {
     Show {
         disk: &'a str,
     },
+}
+
+/// An action that gives frames to an endpoint.
+#[derive(Clone, Copy)]
+pub enum FrameAction<'a> {
     /// Protects the frames of a capture: `protect DISK INPUT OUTPUT`, optionally with `--all`.
     Protect {
         disk: &'a str,
@@ -58,6 +74,11 @@ pub enum Action<'a> {
         common: WireEnds<'a>,
         running: Running<'a>,
     },
+}
+
+/// An action that changes no disk: a question to a running relay, keys, and reports on files.
+#[derive(Clone, Copy)]
+pub enum ToolAction<'a> {
     /// Asks a running relay over its control socket: `ask PATH show`, for example, optionally with
     /// `--json`.
     Ask {

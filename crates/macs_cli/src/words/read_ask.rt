@@ -2,10 +2,10 @@
 
 ghost use Rattle.std.specs.Prelude.{◌≡◌, ◌↔◌, IfSome, IsSome, Some, codes};
 ghost use Rattle.clap.specs.Words.{found_of, rows_of};
-ghost use Rattle.macs_cli.specs.Words.{HasQuestion, Names, is_report, plain_word};
+ghost use Rattle.macs_cli.specs.Words.{HasQuestion, NamesTool, is_report, plain_word};
 ghost use Rattle.macs_cli.specs.declared.words.action.Question.{Question};
 
-use crate::words::action::{Action, Question};
+use crate::words::action::{Question, ToolAction};
 use crate::words::read_values::{is_flagged, text_in};
 use clap::ArgMatches;
 
@@ -54,11 +54,11 @@ fn is_report(question: Question) -> bool
 }
 
 /// `ask` with its values: `None` also if JSON is requested for an answer that is not a report.
-pub fn ask_in<'a>(values: &ArgMatches<'a>) -> Option<Action<'a>>
+pub fn ask_in<'a>(values: &ArgMatches<'a>) -> Option<ToolAction<'a>>
     ensures read { IfSome result
-        (λ action. Names (Some (codes "ask", rows_of (found_of values.now))) action) }
-    ensures found { (action : Action)
-        → Names (Some (codes "ask", rows_of (found_of values.now))) action
+        (NamesTool (codes "ask", rows_of (found_of values.now))) }
+    ensures found { (action : ToolAction)
+        → NamesTool (codes "ask", rows_of (found_of values.now)) action
         → IsSome result }
 {
     let path = text_in(values, "PATH")?;
@@ -67,7 +67,7 @@ pub fn ask_in<'a>(values: &ArgMatches<'a>) -> Option<Action<'a>>
     if is_json && !is_report(question) {
         return None;
     }
-    Some(Action::Ask {
+    Some(ToolAction::Ask {
         path,
         question,
         is_json,

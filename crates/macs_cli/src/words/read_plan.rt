@@ -1,12 +1,12 @@
 //! `plan` with its values.
 
-ghost use Rattle.std.specs.Prelude.{IfSome, IsSome, Some, codes};
+ghost use Rattle.std.specs.Prelude.{IfSome, IsSome, codes};
 ghost use Rattle.clap.specs.Words.{found_of, rows_of};
-ghost use Rattle.macs_cli.specs.Words.{HasText, Names, end_word, stage_word};
+ghost use Rattle.macs_cli.specs.Words.{HasText, NamesTool, end_word, stage_word};
 ghost use Rattle.macs_cli.specs.declared.words.plan_words.PlanEnd.{PlanEnd};
 ghost use Rattle.macs_cli.specs.declared.words.plan_words.PlanStage.{PlanStage};
 
-use crate::words::action::Action;
+use crate::words::action::ToolAction;
 use crate::words::plan_words::{PlanEnd, PlanStage, end_of, stage_of};
 use crate::words::read_values::text_in;
 use clap::ArgMatches;
@@ -36,15 +36,15 @@ fn stage_in(values: &ArgMatches) -> Option<PlanStage>
 }
 
 /// `plan` with its values.
-pub fn plan_in<'a>(values: &ArgMatches<'a>) -> Option<Action<'a>>
+pub fn plan_in<'a>(values: &ArgMatches<'a>) -> Option<ToolAction<'a>>
     ensures read { IfSome result
-        (λ action. Names (Some (codes "plan", rows_of (found_of values.now))) action) }
-    ensures found { (action : Action)
-        → Names (Some (codes "plan", rows_of (found_of values.now))) action
+        (NamesTool (codes "plan", rows_of (found_of values.now))) }
+    ensures found { (action : ToolAction)
+        → NamesTool (codes "plan", rows_of (found_of values.now)) action
         → IsSome result }
 {
     let file = text_in(values, "FILE")?;
     let end = end_in(values)?;
     let stage = stage_in(values)?;
-    Some(Action::Plan { file, end, stage })
+    Some(ToolAction::Plan { file, end, stage })
 }

@@ -1,12 +1,12 @@
 //! `relay` with its values.
 
-ghost use Rattle.std.specs.Prelude.{ℕ, Option, IfSome, IsSome, Some, codes};
+ghost use Rattle.std.specs.Prelude.{ℕ, Option, IfSome, IsSome, codes};
 ghost use Rattle.clap.specs.Words.{Text, found_of, rows_of};
-ghost use Rattle.macs_cli.specs.Words.{FitsNumbers, FitsPace, HasPace, HasText, MayHaveRoom};
-ghost use Rattle.macs_cli.specs.Words.{MayHaveText, Names};
+ghost use Rattle.macs_cli.specs.Words.{FitsOnFrames, FitsPace, HasPace, HasText, MayHaveRoom};
+ghost use Rattle.macs_cli.specs.Words.{MayHaveText, NamesOnFrames};
 ghost use Rattle.macs_cli.specs.declared.words.pace.Pace.{Pace};
 
-use crate::words::action::{Action, WireEnds};
+use crate::words::action::{FrameAction, WireEnds};
 use crate::words::pace::{Pace, Running};
 use crate::words::read_values::{count_in, optional_count_in, optional_room_in, text_in, wait_in};
 use clap::ArgMatches;
@@ -64,18 +64,18 @@ fn running_in<'a>(values: &ArgMatches<'a>) -> Option<Running<'a>>
 }
 
 /// `relay` with its values.
-pub fn relay_in<'a>(values: &ArgMatches<'a>) -> Option<Action<'a>>
+pub fn relay_in<'a>(values: &ArgMatches<'a>) -> Option<FrameAction<'a>>
     ensures read { IfSome result
-        (λ action. Names (Some (codes "relay", rows_of (found_of values.now))) action) }
-    ensures found { (action : Action)
-        → Names (Some (codes "relay", rows_of (found_of values.now))) action
-        → FitsNumbers action → IsSome result }
+        (NamesOnFrames (codes "relay", rows_of (found_of values.now))) }
+    ensures found { (action : FrameAction)
+        → NamesOnFrames (codes "relay", rows_of (found_of values.now)) action
+        → FitsOnFrames action → IsSome result }
 {
     let disk = text_in(values, "DISK")?;
     let controlled = ends_in(values, "OWN1", "PEER1")?;
     let common = ends_in(values, "OWN2", "PEER2")?;
     let running = running_in(values)?;
-    Some(Action::Relay {
+    Some(FrameAction::Relay {
         disk,
         controlled,
         common,

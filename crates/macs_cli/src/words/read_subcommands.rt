@@ -1,26 +1,26 @@
 //! Subcommands with their values, except `relay`, `ask` and `plan`.
 
-ghost use Rattle.std.specs.Prelude.{IfSome, IsSome, Some, codes};
+ghost use Rattle.std.specs.Prelude.{IfSome, IsSome, codes};
 ghost use Rattle.clap.specs.Words.{found_of, rows_of};
-ghost use Rattle.macs_cli.specs.Words.{FitsNumbers, Names};
+ghost use Rattle.macs_cli.specs.Words.{FitsOnDisk, NamesOnDisk, NamesOnFrames, NamesTool};
 
-use crate::words::action::Action;
+use crate::words::action::{DiskAction, FrameAction, ToolAction};
 use crate::words::read_values::{is_flagged, number_in, text_in};
 use clap::ArgMatches;
 
 /// `format` with its values.
-pub fn format_in<'a>(values: &ArgMatches<'a>) -> Option<Action<'a>>
+pub fn format_in<'a>(values: &ArgMatches<'a>) -> Option<DiskAction<'a>>
     ensures read { IfSome result
-        (λ action. Names (Some (codes "format", rows_of (found_of values.now))) action) }
-    ensures found { (action : Action)
-        → Names (Some (codes "format", rows_of (found_of values.now))) action
-        → FitsNumbers action → IsSome result }
+        (NamesOnDisk (codes "format", rows_of (found_of values.now))) }
+    ensures found { (action : DiskAction)
+        → NamesOnDisk (codes "format", rows_of (found_of values.now)) action
+        → FitsOnDisk action → IsSome result }
 {
     let disk = text_in(values, "DISK")?;
     let sci = text_in(values, "SCI")?;
     let tx_block = number_in(values, "TX")?;
     let rx_block = number_in(values, "RX")?;
-    Some(Action::Format {
+    Some(DiskAction::Format {
         disk,
         sci,
         tx_block,
@@ -31,42 +31,42 @@ pub fn format_in<'a>(values: &ArgMatches<'a>) -> Option<Action<'a>>
 }
 
 /// `apply` with its values.
-pub fn apply_in<'a>(values: &ArgMatches<'a>) -> Option<Action<'a>>
+pub fn apply_in<'a>(values: &ArgMatches<'a>) -> Option<DiskAction<'a>>
     ensures read { IfSome result
-        (λ action. Names (Some (codes "apply", rows_of (found_of values.now))) action) }
-    ensures found { (action : Action)
-        → Names (Some (codes "apply", rows_of (found_of values.now))) action
+        (NamesOnDisk (codes "apply", rows_of (found_of values.now))) }
+    ensures found { (action : DiskAction)
+        → NamesOnDisk (codes "apply", rows_of (found_of values.now)) action
         → IsSome result }
 {
     let disk = text_in(values, "DISK")?;
     let file = text_in(values, "FILE")?;
-    Some(Action::Apply { disk, file })
+    Some(DiskAction::Apply { disk, file })
 }
 
 /// `show` with its value.
-pub fn show_in<'a>(values: &ArgMatches<'a>) -> Option<Action<'a>>
+pub fn show_in<'a>(values: &ArgMatches<'a>) -> Option<DiskAction<'a>>
     ensures read { IfSome result
-        (λ action. Names (Some (codes "show", rows_of (found_of values.now))) action) }
-    ensures found { (action : Action)
-        → Names (Some (codes "show", rows_of (found_of values.now))) action
+        (NamesOnDisk (codes "show", rows_of (found_of values.now))) }
+    ensures found { (action : DiskAction)
+        → NamesOnDisk (codes "show", rows_of (found_of values.now)) action
         → IsSome result }
 {
     let disk = text_in(values, "DISK")?;
-    Some(Action::Show { disk })
+    Some(DiskAction::Show { disk })
 }
 
 /// `protect` with its values.
-pub fn protect_in<'a>(values: &ArgMatches<'a>) -> Option<Action<'a>>
+pub fn protect_in<'a>(values: &ArgMatches<'a>) -> Option<FrameAction<'a>>
     ensures read { IfSome result
-        (λ action. Names (Some (codes "protect", rows_of (found_of values.now))) action) }
-    ensures found { (action : Action)
-        → Names (Some (codes "protect", rows_of (found_of values.now))) action
+        (NamesOnFrames (codes "protect", rows_of (found_of values.now))) }
+    ensures found { (action : FrameAction)
+        → NamesOnFrames (codes "protect", rows_of (found_of values.now)) action
         → IsSome result }
 {
     let disk = text_in(values, "DISK")?;
     let input = text_in(values, "INPUT")?;
     let output = text_in(values, "OUTPUT")?;
-    Some(Action::Protect {
+    Some(FrameAction::Protect {
         disk,
         input,
         output,
@@ -75,17 +75,17 @@ pub fn protect_in<'a>(values: &ArgMatches<'a>) -> Option<Action<'a>>
 }
 
 /// `validate` with its values.
-pub fn validate_in<'a>(values: &ArgMatches<'a>) -> Option<Action<'a>>
+pub fn validate_in<'a>(values: &ArgMatches<'a>) -> Option<FrameAction<'a>>
     ensures read { IfSome result
-        (λ action. Names (Some (codes "validate", rows_of (found_of values.now))) action) }
-    ensures found { (action : Action)
-        → Names (Some (codes "validate", rows_of (found_of values.now))) action
+        (NamesOnFrames (codes "validate", rows_of (found_of values.now))) }
+    ensures found { (action : FrameAction)
+        → NamesOnFrames (codes "validate", rows_of (found_of values.now)) action
         → IsSome result }
 {
     let disk = text_in(values, "DISK")?;
     let input = text_in(values, "INPUT")?;
     let output = text_in(values, "OUTPUT")?;
-    Some(Action::Validate {
+    Some(FrameAction::Validate {
         disk,
         input,
         output,
@@ -95,53 +95,53 @@ pub fn validate_in<'a>(values: &ArgMatches<'a>) -> Option<Action<'a>>
 }
 
 /// `key`, with `--long` or without it.
-pub fn key_in<'a>(values: &ArgMatches<'a>) -> Option<Action<'a>>
+pub fn key_in<'a>(values: &ArgMatches<'a>) -> Option<ToolAction<'a>>
     ensures read { IfSome result
-        (λ action. Names (Some (codes "key", rows_of (found_of values.now))) action) }
+        (NamesTool (codes "key", rows_of (found_of values.now))) }
     ensures found { IsSome result }
 {
-    Some(Action::Key {
+    Some(ToolAction::Key {
         is_long: is_flagged(values, "long"),
     })
 }
 
 /// `inspect` with its value.
-pub fn inspect_in<'a>(values: &ArgMatches<'a>) -> Option<Action<'a>>
+pub fn inspect_in<'a>(values: &ArgMatches<'a>) -> Option<ToolAction<'a>>
     ensures read { IfSome result
-        (λ action. Names (Some (codes "inspect", rows_of (found_of values.now))) action) }
-    ensures found { (action : Action)
-        → Names (Some (codes "inspect", rows_of (found_of values.now))) action
+        (NamesTool (codes "inspect", rows_of (found_of values.now))) }
+    ensures found { (action : ToolAction)
+        → NamesTool (codes "inspect", rows_of (found_of values.now)) action
         → IsSome result }
 {
     let input = text_in(values, "INPUT")?;
-    Some(Action::Inspect { input })
+    Some(ToolAction::Inspect { input })
 }
 
 /// `check` with its values.
-pub fn check_in<'a>(values: &ArgMatches<'a>) -> Option<Action<'a>>
+pub fn check_in<'a>(values: &ArgMatches<'a>) -> Option<ToolAction<'a>>
     ensures read { IfSome result
-        (λ action. Names (Some (codes "check", rows_of (found_of values.now))) action) }
-    ensures found { (action : Action)
-        → Names (Some (codes "check", rows_of (found_of values.now))) action
+        (NamesTool (codes "check", rows_of (found_of values.now))) }
+    ensures found { (action : ToolAction)
+        → NamesTool (codes "check", rows_of (found_of values.now)) action
         → IsSome result }
 {
     let file = text_in(values, "FILE")?;
-    Some(Action::Check {
+    Some(ToolAction::Check {
         file,
         disk: text_in(values, "DISK"),
     })
 }
 
 /// `examine` with its values.
-pub fn examine_in<'a>(values: &ArgMatches<'a>) -> Option<Action<'a>>
+pub fn examine_in<'a>(values: &ArgMatches<'a>) -> Option<ToolAction<'a>>
     ensures read { IfSome result
-        (λ action. Names (Some (codes "examine", rows_of (found_of values.now))) action) }
-    ensures found { (action : Action)
-        → Names (Some (codes "examine", rows_of (found_of values.now))) action
+        (NamesTool (codes "examine", rows_of (found_of values.now))) }
+    ensures found { (action : ToolAction)
+        → NamesTool (codes "examine", rows_of (found_of values.now)) action
         → IsSome result }
 {
     let disk = text_in(values, "DISK")?;
-    Some(Action::Examine {
+    Some(ToolAction::Examine {
         disk,
         is_json: is_flagged(values, "json"),
     })

@@ -1,10 +1,11 @@
 //! The action of the subcommand that was used.
 
-ghost use Rattle.std.specs.Prelude.{◌≢◌, IfSome, IsSome, Some, codes};
+ghost use Rattle.std.specs.Prelude.{IfSome, IsSome};
 ghost use Rattle.clap.specs.Words.{found_of, rows_of, subcommand_rows_of};
-ghost use Rattle.macs_cli.specs.Words.{FitsNumbers, Names};
+ghost use Rattle.macs_cli.specs.Words.{FitsNumbers, FitsOnDisk, FitsOnFrames, Names};
+ghost use Rattle.macs_cli.specs.Words.{NamesOnDisk, NamesOnFrames, NamesTool};
 
-use crate::words::action::Action;
+use crate::words::action::{Action, DiskAction, FrameAction, ToolAction};
 use crate::words::read_ask::ask_in;
 use crate::words::read_plan::plan_in;
 use crate::words::read_relay::relay_in;
@@ -13,43 +14,51 @@ use crate::words::read_subcommands::{
 };
 use clap::ArgMatches;
 
-/// The action of a subcommand that needs neither frames nor a running relay, with its values.
-fn lone_in<'a>(name: &str, values: &ArgMatches<'a>) -> Option<Action<'a>>
-    requires others { (name.now ≢ codes "open") × (name.now ≢ codes "format")
-        × (name.now ≢ codes "apply")
-        × (name.now ≢ codes "show") × (name.now ≢ codes "protect") × (name.now ≢ codes "validate")
-        × (name.now ≢ codes "relay") × (name.now ≢ codes "ask") }
-    ensures read { IfSome result (Names (Some (name.now, rows_of (found_of values.now)))) }
-    ensures found { (action : Action)
-        → Names (Some (name.now, rows_of (found_of values.now))) action
-        → IsSome result }
+/// The action of a subcommand that works on an endpoint without frames, with its values.
+fn disk_action_in<'a>(name: &str, values: &ArgMatches<'a>) -> Option<DiskAction<'a>>
+    ensures read { IfSome result (NamesOnDisk (name.now, rows_of (found_of values.now))) }
+    ensures found { (action : DiskAction)
+        → NamesOnDisk (name.now, rows_of (found_of values.now)) action
+        → FitsOnDisk action → IsSome result }
 {
     match name {
-        "key" => key_in(values),
-        "inspect" => inspect_in(values),
-        "check" => check_in(values),
-        "plan" => plan_in(values),
-        "examine" => examine_in(values),
-        "about" => Some(Action::About),
+        "format" => format_in(values),
+        "apply" => apply_in(values),
+        "show" => show_in(values),
         _ => None,
     }
 }
 
-/// The action of a subcommand other than `open`, `format`, `apply` and `show`, with its values.
-fn frames_in<'a>(name: &str, values: &ArgMatches<'a>) -> Option<Action<'a>>
-    requires others { (name.now ≢ codes "open") × (name.now ≢ codes "format")
-        × (name.now ≢ codes "apply") × (name.now ≢ codes "show") }
-    ensures read { IfSome result (Names (Some (name.now, rows_of (found_of values.now)))) }
-    ensures found { (action : Action)
-        → Names (Some (name.now, rows_of (found_of values.now))) action
-        → FitsNumbers action → IsSome result }
+/// The action of a subcommand that gives frames to an endpoint, with its values.
+fn frame_action_in<'a>(name: &str, values: &ArgMatches<'a>) -> Option<FrameAction<'a>>
+    ensures read { IfSome result (NamesOnFrames (name.now, rows_of (found_of values.now))) }
+    ensures found { (action : FrameAction)
+        → NamesOnFrames (name.now, rows_of (found_of values.now)) action
+        → FitsOnFrames action → IsSome result }
 {
     match name {
         "protect" => protect_in(values),
         "validate" => validate_in(values),
         "relay" => relay_in(values),
+        _ => None,
+    }
+}
+
+/// The action of a subcommand that changes no disk, with its values.
+fn tool_action_in<'a>(name: &str, values: &ArgMatches<'a>) -> Option<ToolAction<'a>>
+    ensures read { IfSome result (NamesTool (name.now, rows_of (found_of values.now))) }
+    ensures found { (action : ToolAction)
+        → NamesTool (name.now, rows_of (found_of values.now)) action → IsSome result }
+{
+    match name {
         "ask" => ask_in(values),
-        _ => lone_in(name, values),
+        "key" => key_in(values),
+        "inspect" => inspect_in(values),
+        "check" => check_in(values),
+        "plan" => plan_in(values),
+        "examine" => examine_in(values),
+        "about" => Some(ToolAction::About),
+        _ => None,
     }
 }
 
@@ -62,11 +71,17 @@ pub fn action_in<'a>(matches: &ArgMatches<'a>) -> Option<Action<'a>>
     let Some((name, values)) = matches.subcommand() else {
         return Some(Action::Open);
     };
-    match name {
-        "open" => Some(Action::Open),
-        "format" => format_in(values),
-        "apply" => apply_in(values),
-        "show" => show_in(values),
-        _ => frames_in(name, values),
+    if name == "open" {
+        return Some(Action::Open);
+    }
+    if let Some(action) = disk_action_in(name, values) {
+        return Some(Action::OnDisk(action));
+    }
+    if let Some(action) = frame_action_in(name, values) {
+        return Some(Action::OnFrames(action));
+    }
+    match tool_action_in(name, values) {
+        Some(action) => Some(Action::Tool(action)),
+        None => None,
     }
 }

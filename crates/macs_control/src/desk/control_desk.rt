@@ -200,4 +200,9 @@ impl<
             None => {}
         }
     }
+
+    /// It rests in `next`, before it looks after its clients.
+    fn rest(&mut self)
+        ensures { self.new ≡ self.old }
+    {}
 }

@@ -1,13 +1,13 @@
 //! When a relay sleeps, and what a desk that notes its events is answered: their clauses are met.
 
-ghost use Rattle.std.specs.Prelude.{Some, length};
+ghost use Rattle.std.specs.Prelude.{◌≡◌, ◌++◌, ◌∷◌, [], Some, length};
 
 use super::endpoints::{OWN, formatted, number_of, sending};
 use super::relaying::push_plain;
 use macs_config::Command;
 use macs_disk::{MemDisk, SectorDisk};
 use macs_edge::{
-    CommandEnd, Desk, DeskEvent, Got, Idle, MemWire, Order, Wire, WireFault, attend, relay_resting,
+    CommandEnd, Desk, DeskEvent, Got, Idle, MemWire, Order, Unattended, Wire, WireFault, attend,
 };
 use macs_endpoint::{Endpoint, SubmitFault, Ticket};
 use macs_frame::FrameBuf;
@@ -81,16 +81,17 @@ fn it_sleeps_after_quiet_turns(rt: HostRuntime) {
         receives: 2,
         sends: 4,
     };
-    let mut idle = Sleeper {
+    let idle = Sleeper {
         rt: &rt,
         notes: &notes,
         slept: Vec::new(rt.alloc()),
     };
+    let mut nobody = Unattended { idle };
     let mut endpoint = sending(&rt, formatted(&rt, rt.alloc(), OWN, 64));
-    let told = relay_resting(&mut endpoint, &mut controlled, &mut common, &mut idle, 5);
+    let told = attend(&mut endpoint, &mut controlled, &mut common, &mut nobody, 5);
     assert!(rt; told.is_ok());
     assert!(rt; notes.get() == 142_142_129_129_129);
-    assert!(rt; idle.slept.len() == 3);
+    assert!(rt; nobody.idle.slept.len() == 3);
 }
 
 /// It wants the end before the eighth turn, and keeps what passed between it and the relay.
@@ -102,7 +103,7 @@ struct Told<'a, R: Abort> {
 }
 
 impl<R: Abort, D: SectorDisk, P: Wire, C: Wire> Desk<D, P, C> for Told<'_, R> {
-    ghost events = { λ it. Some it.events.items };
+    ghost hears = { λ old event new. new.events.items ≡ old.events.items ++ event ∷ [] };
 
     fn next(
         &mut self,
@@ -133,6 +134,13 @@ impl<R: Abort, D: SectorDisk, P: Wire, C: Wire> Desk<D, P, C> for Told<'_, R> {
         let _held: Option<Command> = None;
         let event = DeskEvent::Answered(ticket, end);
         self.events.push(event).expect(self.rt, "memory");
+    }
+
+    fn rest(&mut self) {
+        let _held: Option<Command> = None;
+        self.events
+            .push(DeskEvent::Rested)
+            .expect(self.rt, "memory");
     }
 }
 

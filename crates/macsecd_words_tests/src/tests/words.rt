@@ -1,7 +1,10 @@
 //! Words that are taken: the action that they name.
 
 use super::{INPUT, OPENED, expect};
-use macs_cli::{Action, Pace, PlanEnd, PlanStage, Question, Running, WireEnds, action_of};
+use macs_cli::{
+    Action, DiskAction, FrameAction, Pace, PlanEnd, PlanStage, Question, Running, ToolAction,
+    WireEnds, action_of,
+};
 use std::alloc::Global;
 use std::process::Abort;
 
@@ -279,7 +282,7 @@ const SERVED: &[(&[&str], Served<'static>)] = &[
 /// What a relay serves, of the action that it is.
 fn served<'a>(action: Action<'a>) -> Option<Served<'a>> {
     match action {
-        Action::Relay { running, .. } => Some(served_so(running)),
+        Action::OnFrames(FrameAction::Relay { running, .. }) => Some(served_so(running)),
         _ => None,
     }
 }
@@ -315,7 +318,16 @@ fn is_named(wanted: &Parts<'_>, name: &str, words: [&str; 5], numbers: [u64; 2])
 fn is_of(action: Action<'_>, wanted: &Parts<'_>) -> bool {
     match action {
         Action::Open => is_named(wanted, "open", ["", "", "", "", ""], [0, 0]),
-        Action::Format {
+        Action::OnDisk(action) => is_on_disk(action, wanted),
+        Action::OnFrames(action) => is_on_frames(action, wanted),
+        Action::Tool(action) => is_tool(action, wanted),
+    }
+}
+
+/// The same of an action on an endpoint, without frames.
+fn is_on_disk(action: DiskAction<'_>, wanted: &Parts<'_>) -> bool {
+    match action {
+        DiskAction::Format {
             disk,
             sci,
             tx_block,
@@ -334,27 +346,20 @@ fn is_of(action: Action<'_>, wanted: &Parts<'_>) -> bool {
             ],
             [u64::from(tx_block), u64::from(rx_block)],
         ),
-        Action::Relay {
-            disk,
-            controlled,
-            common,
-            running,
-        } => is_relay(disk, controlled, common, running.pace, wanted),
-        Action::Ask {
-            path,
-            question,
-            is_json,
-        } => is_asked(path, question, is_json, wanted),
-        other => is_of_files(other, wanted),
+        DiskAction::Apply { disk, file } => is_named(
+            wanted,
+            "apply",
+            [disk, file, "", "", ""],
+            [0, 0],
+        ),
+        DiskAction::Show { disk } => is_named(wanted, "show", [disk, "", "", "", ""], [0, 0]),
     }
 }
 
-/// The same of an action whose parts are names of files and flags.
-fn is_of_files(action: Action<'_>, wanted: &Parts<'_>) -> bool {
+/// The same of an action that gives frames to an endpoint.
+fn is_on_frames(action: FrameAction<'_>, wanted: &Parts<'_>) -> bool {
     match action {
-        Action::Apply { disk, file } => is_named(wanted, "apply", [disk, file, "", "", ""], [0, 0]),
-        Action::Show { disk } => is_named(wanted, "show", [disk, "", "", "", ""], [0, 0]),
-        Action::Protect {
+        FrameAction::Protect {
             disk,
             input,
             output,
@@ -365,7 +370,7 @@ fn is_of_files(action: Action<'_>, wanted: &Parts<'_>) -> bool {
             [disk, input, output, if is_all { "all" } else { "" }, ""],
             [0, 0],
         ),
-        Action::Validate {
+        FrameAction::Validate {
             disk,
             input,
             output,
@@ -383,26 +388,47 @@ fn is_of_files(action: Action<'_>, wanted: &Parts<'_>) -> bool {
             ],
             [0, 0],
         ),
-        Action::Key { is_long } => is_named(
+        FrameAction::Relay {
+            disk,
+            controlled,
+            common,
+            running,
+        } => is_relay(disk, controlled, common, running.pace, wanted),
+    }
+}
+
+/// The same of an action that changes no disk.
+fn is_tool(action: ToolAction<'_>, wanted: &Parts<'_>) -> bool {
+    match action {
+        ToolAction::Ask {
+            path,
+            question,
+            is_json,
+        } => is_asked(path, question, is_json, wanted),
+        ToolAction::Key { is_long } => is_named(
             wanted,
             "key",
             [if is_long { "long" } else { "" }, "", "", "", ""],
             [0, 0],
         ),
-        Action::Inspect { input } => is_named(wanted, "inspect", [input, "", "", "", ""], [0, 0]),
-        Action::Check { file, disk } => {
+        ToolAction::Inspect { input } => is_named(
+            wanted,
+            "inspect",
+            [input, "", "", "", ""],
+            [0, 0],
+        ),
+        ToolAction::Check { file, disk } => {
             let disk = disk.unwrap_or("");
             is_named(wanted, "check", [file, disk, "", "", ""], [0, 0])
         }
-        Action::Plan { file, end, stage } => is_planned(file, end, stage, wanted),
-        Action::Examine { disk, is_json } => is_named(
+        ToolAction::Plan { file, end, stage } => is_planned(file, end, stage, wanted),
+        ToolAction::Examine { disk, is_json } => is_named(
             wanted,
             "examine",
             [disk, if is_json { "json" } else { "" }, "", "", ""],
             [0, 0],
         ),
-        Action::About => is_named(wanted, "about", ["", "", "", "", ""], [0, 0]),
-        _ => false,
+        ToolAction::About => is_named(wanted, "about", ["", "", "", "", ""], [0, 0]),
     }
 }
 

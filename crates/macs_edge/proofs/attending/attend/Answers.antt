@@ -2,7 +2,7 @@ use Rattle.std.proofs.Common.{◌++◌, Err, Ok, refl}
 use Rattle.std.proofs.lemmas.Result.{err_from_is_err_and}
 use Rattle.macs_edge.specs.Attending.{IsAttended, failed_of}
 use Rattle.macs_edge.specs.Relaying.{empty_lane, lane_value, relay_of}
-use Rattle.macs_edge.proofs.Attended.{attends-begun, events-more}
+use Rattle.macs_edge.proofs.Attended.{attends-begun, hears-append}
 use Rattle.macs_edge.proofs.Lived.{lives-attended}
 use Rattle.macs_edge.proofs.attending.attend.Goals as goal
 
@@ -38,8 +38,8 @@ returns-in_err-ended g c =
       attended = (
         events,
         attended,
-        events-more (g.K.Desk.events c.args.desk.now) (g.K.Desk.events after.desk) (g.K.Desk.events c.close.new.desk)
-            during (failed_of after.endpoint.waiting) c.in_err-ended.ensures.2 c.close.ensures,
+        hears-append g.K.Desk.hears c.args.desk.now after.desk c.close.new.desk during
+            (failed_of after.endpoint.waiting) c.in_err-ended.ensures.2 c.close.ensures,
       );
       lives = lives-attended g.D.SectorDisk.disk c.args.turns start events c.from_residual.result after.endpoint
           (g.P.Wire.state after.controlled) (g.C.Wire.state after.common) attended;
@@ -72,8 +72,8 @@ returns g c =
       attended = (
         events,
         attended,
-        events-more (g.K.Desk.events c.args.desk.now) (g.K.Desk.events after.desk) (g.K.Desk.events c.close.new.desk)
-            during (failed_of after.endpoint.waiting) c.in_ok-ended.ensures.2 c.close.ensures,
+        hears-append g.K.Desk.hears c.args.desk.now after.desk c.close.new.desk during
+            (failed_of after.endpoint.waiting) c.in_ok-ended.ensures.2 c.close.ensures,
       );
       lives = lives-attended g.D.SectorDisk.disk c.args.turns start events (Ok c.summed.result) after.endpoint
           (g.P.Wire.state after.controlled) (g.C.Wire.state after.common) attended;

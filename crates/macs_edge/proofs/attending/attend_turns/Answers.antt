@@ -1,12 +1,12 @@
 use Rattle.std.proofs.Common.{[], ◌++◌, arith, inr, refl, ap, sym, subst}
 use Rattle.std.proofs.lemmas.Result.{err_from_is_err_and}
-use Rattle.macs_edge.specs.Attending.{TakesAllAttended, answers_of}
+use Rattle.macs_edge.specs.Attending.{TakesAllAttended, answers_of, rests_after}
 use Rattle.macs_edge.specs.Relaying.{lane_value, relay_of}
-use Rattle.macs_edge.proofs.Attended.{attended-more, events-more, events-none, obeys-end}
+use Rattle.macs_edge.proofs.Attended.{attended-more, hears-append, obeys-end}
 use Rattle.macs_edge.proofs.attending.attend_turns.Goals as goal
 
 pub loop-init : goal.loop-init
-loop-init g c = (omega arith, ([], (refl, refl, refl), events-none (g.K.Desk.events c.args.desk.now)))
+loop-init g c = (omega arith, ([], (refl, refl, refl), refl))
 
 pub returns-then-not-obey : goal.returns-then-not-obey
 returns-then-not-obey g c =
@@ -27,9 +27,8 @@ returns-then-not-obey g c =
             (sym ends.1) c.loop.invariant.1.1,
         inr (c.loop-test.true, ap (λ (l : _). earlier ++ l) ends.0),
       ),
-      events-more (g.K.Desk.events c.args.desk.now) (g.K.Desk.events c.loop.desk) (g.K.Desk.events c.obey.new.desk)
-          earlier last
-          c.loop.invariant.1.2 c.if-not-obey.ensures.2,
+      hears-append g.K.Desk.hears c.args.desk.now c.loop.desk c.obey.new.desk earlier last c.loop.invariant.1.2
+          c.if-not-obey.ensures.2,
     )
 
 pub returns-in_err-step : goal.returns-in_err-step
@@ -54,9 +53,8 @@ returns-in_err-step g c =
         c.in_err-step.ensures,
         refl,
       ),
-      events-more (g.K.Desk.events c.args.desk.now) (g.K.Desk.events c.loop.desk) (g.K.Desk.events c.obey.new.desk)
-          earlier last
-          c.loop.invariant.1.2 c.if-not-obey.ensures.2,
+      hears-append g.K.Desk.hears c.args.desk.now c.loop.desk c.obey.new.desk earlier last c.loop.invariant.1.2
+          c.if-not-obey.ensures.2,
     )
 
 pub loop-preserved : goal.loop-preserved
@@ -67,19 +65,19 @@ loop-preserved g c =
     (lane_value c.loop.to_common) (lane_value c.loop.to_controlled) in
     let earlier = c.loop.invariant.1.0 in
     let before = c.if-not-obey.ensures.0 in
-    let told = answers_of c.in_ok-step.step in (
+    let told = answers_of c.in_ok-step.step in
+    let heard = hears-append g.K.Desk.hears in (
       omega (arith, c.loop-test.true),
       (
-        earlier ++ (before ++ told),
+        earlier ++ (before ++ told) ++ rests_after c.was_quiet-is_quiet.result,
         attended-more g.D.SectorDisk.disk c.loop.counter start between _ earlier (before ++ told) c.loop.is_quiet
             c.was_quiet-is_quiet.result c.in_ok-step.step
             c.loop.invariant.1.1 (before, c.obey.new.endpoint, c.if-not-obey.ensures.1, c.in_ok-step.ensures, refl)
             c.was_quiet-is_quiet.ensures,
-        events-more (g.K.Desk.events c.args.desk.now) (g.K.Desk.events c.loop.desk) (g.K.Desk.events c.tell.new.desk)
-            earlier (before ++ told)
-            c.loop.invariant.1.2
-            (events-more (g.K.Desk.events c.loop.desk) (g.K.Desk.events c.obey.new.desk)
-            (g.K.Desk.events c.tell.new.desk) before told
-            c.if-not-obey.ensures.2 c.tell.ensures),
+        heard c.args.desk.now c.tell.new.desk c.rest.new.desk (earlier ++ (before ++ told))
+            (rests_after c.was_quiet-is_quiet.result)
+            (heard c.args.desk.now c.loop.desk c.tell.new.desk earlier (before ++ told) c.loop.invariant.1.2
+            (heard c.loop.desk c.obey.new.desk c.tell.new.desk before told c.if-not-obey.ensures.2 c.tell.ensures))
+            c.rest.ensures,
       ),
     )

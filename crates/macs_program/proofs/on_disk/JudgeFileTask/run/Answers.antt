@@ -1,4 +1,0 @@
-use Rattle.macs_program.proofs.on_disk.JudgeFileTask.run.Goals as goal
-
-pub returns : goal.returns
-returns g c = c.judge_between.ensures.judges

@@ -1,8 +1,0 @@
-use Rattle.std.proofs.lemmas.Result.{err_from_is_err_and}
-use Rattle.macs_program.proofs.InFiles.{no-disk}
-use Rattle.macs_program.proofs.on_disk.with_file.Goals as goal
-
-pub returns-in_err-disk : goal.returns-in_err-disk
-returns-in_err-disk g c =
-    let p = err_from_is_err_and c.from_residual.result c.from_residual.ensures.1 in
-    no-disk _ _ _ c.in_err-disk.field-0.0 p.0 c.from_residual.result p.1 p.2 c.in_err-disk.ensures.file

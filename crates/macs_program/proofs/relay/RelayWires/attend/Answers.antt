@@ -1,0 +1,13 @@
+use Rattle.std.proofs.lemmas.Result.{err_from_is_err_and}
+use Rattle.macs_program.proofs.Relayed.{frames-relayed, no-desk}
+use Rattle.macs_program.proofs.relay.RelayWires.attend.Goals as goal
+
+pub returns-in_err-desk : goal.returns-in_err-desk
+returns-in_err-desk g c =
+    let p = err_from_is_err_and c.from_residual.result c.from_residual.ensures.1 in
+    no-desk _ _ _ _ _ _ c.in_err-desk.field-0.0 p.0 c.from_residual.result p.1 p.2 c.in_err-desk.ensures
+
+pub returns : goal.returns
+returns g c =
+    let (answer, events, controlled, common, attended, heard, reported) = c.relay-result.ensures in
+    frames-relayed _ _ _ _ _ _ answer _ controlled common _ _ (events, attended) reported

@@ -1,0 +1,174 @@
+//! `relay`: frames between two wires through an endpoint.
+
+ghost use Rattle.std.specs.Prelude.{◌≡◌, ◌≢◌, ◌⊎◌, ◌↔◌, Err, true, IfErr, IfOk};
+ghost use Rattle.std.specs.Io.KnownBytes.{Appends};
+ghost use Rattle.macs_edge.specs.declared.relaying.RelaySummary.{RelaySummary};
+ghost use Rattle.macs_fields.specs.First.{IsFirst};
+ghost use Rattle.macs_cli.specs.Addresses.{AddressFaultHolds, SpellsBoth, address_faults};
+ghost use Rattle.macs_cli.specs.Failing.{failure_status};
+ghost use Rattle.macs_offline.specs.Openings.{OpeningFails};
+ghost use Rattle.macs_cli.specs.declared.addresses.AddressFault.{AddressFault};
+ghost use Rattle.macs_program.specs.Relaying.{ComesTo, IsOfRelay, IsUnbound, RelayEndsIn};
+ghost use Rattle.macs_program.specs.Relaying.{attended, course_of, is_attended, new_wire};
+ghost use Rattle.macs_program.specs.Relaying.{turns_of, unattended};
+ghost use Rattle.macs_program.specs.Summing.{relay_line};
+ghost use Rattle.macs_program.specs.Tasks.{DoesRelay};
+
+use crate::attendants::{desk_for, leave};
+use crate::pacing::{Rest, limit_of};
+use crate::task::{Task, with_file};
+use crate::wires::{Wires, bind_wires};
+use macs_cli::{CaptureFile, Failure, Running, Status, Stream, WireEnds, addresses_of};
+use macs_control::Notifier;
+use macs_disk::SectorDisk;
+use macs_edge::{UdpWire, Unattended, Wire};
+use macs_endpoint::Endpoint;
+use macs_offline::look_at;
+use std::alloc::Global;
+use std::net::{Net, UdpSocket};
+use std::rt::{Clock, Env, Files};
+
+/// Whether a desk attends a relay.
+fn is_attended(running: &Running) -> bool
+    ensures { result ≡ is_attended running.now }
+{
+    running.control.is_some() || running.metrics.is_some()
+}
+
+/// Relays frames through an endpoint between two wires, of which no call has been made yet.
+#[derive(Drop)]
+struct RelayWires<'a, T> {
+    rt: &'a T,
+    alloc: Global,
+    disk: &'a str,
+    wires: Wires,
+    running: Running<'a>,
+    ghost new_controlled: { ⟦<UdpWire<Global, UdpSocket> as Wire>⟧.state wires.controlled
+        ≡ new_wire },
+    ghost new_common: { ⟦<UdpWire<Global, UdpSocket> as Wire>⟧.state wires.common ≡ new_wire },
+}
+
+impl<T: Files + Net + Clock + Env> RelayWires<'_, T> {
+    ghost use Rattle.macs_program.specs.Relaying.{attended, turns_of, unattended};
+    ghost use Rattle.macs_program.specs.Tasks.{DoesRelay};
+
+    /// A desk attends the relay. The program's parent is notified once everything is bound, and when
+    /// the relay ends.
+    fn attend<D: SectorDisk, W: Stream>(
+        self,
+        endpoint: &mut Endpoint<D>,
+        out: &mut W,
+    ) -> Result<Status, Failure>
+        ensures { DoesRelay D.disk W.contents W.failed (attended (turns_of self.entry.running.pace))
+            endpoint.old out.old result endpoint.new out.new }
+    {
+        let RelayWires {
+            rt,
+            alloc,
+            disk,
+            wires,
+            running,
+        } = self;
+        let mut desk = desk_for(rt, alloc, disk, &running, wires.sockets())?;
+        let notifier = Notifier::of_environment(rt, alloc);
+        notifier.ready();
+        let result = wires.relay(endpoint, &mut desk, running.pace, out);
+        notifier.stopping();
+        leave(rt, &running);
+        result
+    }
+
+    /// Nobody attends the relay.
+    fn leave_alone<D: SectorDisk, W: Stream>(
+        self,
+        endpoint: &mut Endpoint<D>,
+        out: &mut W,
+    ) -> Result<Status, Failure>
+        ensures { DoesRelay D.disk W.contents W.failed
+            (unattended (turns_of self.entry.running.pace)) endpoint.old out.old result
+            endpoint.new out.new }
+    {
+        let RelayWires { wires, running, .. } = self;
+        let idle = Rest {
+            sockets: wires.sockets(),
+            limit: limit_of(running.pace),
+        };
+        wires.relay(endpoint, &mut Unattended { idle }, running.pace, out)
+    }
+}
+
+impl<T: Files + Net + Clock + Env, D: SectorDisk, W: Stream> Task<D, W> for RelayWires<'_, T> {
+    ghost does = { λ task. DoesRelay D.disk W.contents W.failed (course_of task.running) };
+
+    #[inline(never)]
+    fn run(self, endpoint: &mut Endpoint<D>, out: &mut W) -> Result<Status, Failure> {
+        if is_attended(&self.running) {
+            self.attend(endpoint, out)
+        } else {
+            self.leave_alone(endpoint, out)
+        }
+    }
+}
+
+/// The failure of a relay whose wires cannot be bound: that of its disk, which comes first, if
+/// there is one. The file is examined in place and not rewritten, so that a relay that is restarted
+/// over and over writes nothing.
+fn unbound<T: Files>(rt: &T, alloc: Global, disk: &str, failure: Failure) -> Failure
+where
+    T::File: CaptureFile,
+    requires { (failure ≡ Failure.Memory) ⊎ (failure ≡ Failure.Wire) }
+    ensures { IsUnbound T.File.file result }
+{
+    match look_at(rt, alloc, disk) {
+        Ok(()) => failure,
+        Err(fault) => fault,
+    }
+}
+
+/// `relay`: relays frames between two wires, the first of which is the controlled side.
+pub fn relay<'a, T: Files + Net + Clock + Env, W: Stream>(
+    rt: &'a T,
+    alloc: Global,
+    disk: &'a str,
+    controlled: WireEnds,
+    common: WireEnds,
+    running: Running<'a>,
+    out: &mut W,
+) -> Result<Status, Failure>
+where
+    T::File: CaptureFile,
+    ensures printed { IfOk result
+        (λ status. (summary : RelaySummary) × ComesTo T.File.file (course_of running.entry) summary
+        × SpellsBoth controlled.entry common.entry
+        × Appends (W.contents out.old) (W.contents out.new) (relay_line summary)
+        × (status ≡ Status.Done)) }
+    ensures address { (fault : AddressFault) → (result ≡ Err (Failure.Address fault))
+        ↔ IsFirst (AddressFaultHolds controlled.entry common.entry) address_faults fault }
+    ensures usage { IfErr result (λ failure. failure_status failure ≡ Status.Usage
+        → ((fault : AddressFault) × AddressFaultHolds controlled.entry common.entry fault)
+        × (out.new ≡ out.old)) }
+    ensures ended { IfErr result
+        (λ failure. ((fault : AddressFault) × (failure ≡ Failure.Address fault)
+        × IsFirst (AddressFaultHolds controlled.entry common.entry) address_faults fault)
+        ⊎ IsUnbound T.File.file failure
+        ⊎ OpeningFails T.File.file failure
+        ⊎ RelayEndsIn T.File.file (course_of running.entry) failure) }
+    ensures names { IfErr result IsOfRelay }
+    ensures silent { IfErr result (λ failure. failure ≢ Failure.Output → out.new ≡ out.old) }
+    ensures broken { IfErr result (λ failure. failure ≡ Failure.Output → W.failed out.new ≡ true) }
+{
+    let addresses = addresses_of(controlled, common)?;
+    match bind_wires(rt, alloc, addresses, running.buffer) {
+        Ok(wires) => {
+            let task = RelayWires {
+                rt,
+                alloc,
+                disk,
+                wires,
+                running,
+            };
+            with_file(rt, alloc, disk, task, out)
+        }
+        Err(failure) => Err(unbound(rt, alloc, disk, failure)),
+    }
+}

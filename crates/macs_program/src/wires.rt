@@ -1,0 +1,136 @@
+//! The wires of a relay: two UDP sockets.
+
+ghost use Rattle.std.specs.Prelude.{◌≡◌, ◌⊎◌, IfErr, IfOk};
+ghost use Rattle.macs_edge.specs.UdpWires.{peer_of};
+ghost use Rattle.macs_program.specs.Relaying.{new_wire};
+
+use crate::pacing::{left_out, turns_of};
+use crate::relaying::relay_frames;
+use macs_cli::{Addresses, Failure, Pace, Status, Stream, WireAddresses};
+use macs_control::{Wires as Sockets, ask_for_buffer};
+use macs_disk::SectorDisk;
+use macs_edge::{Desk, SparedSocket, UdpWire, Wire};
+use macs_endpoint::Endpoint;
+use std::alloc::Global;
+use std::net::{Net, UdpSocket};
+use std::os::fd::AsRawFd;
+
+/// The wires of a relay.
+#[derive(Drop)]
+pub struct Wires {
+    pub controlled: UdpWire<Global>,
+    pub common: UdpWire<Global>,
+}
+
+/// A wire that skips some receives while it yields no frames.
+pub type SparedWire = UdpWire<Global, SparedSocket<UdpSocket>>;
+
+/// The same wire, after asking the system to buffer this many octets of datagrams that wait at it:
+/// how many it buffers is noted.
+fn with_buffer<N: Net>(net: &N, mut wire: UdpWire<Global>, octets: u32) -> UdpWire<Global>
+    ensures state { ⟦<UdpWire<Global, UdpSocket> as Wire>⟧.state result
+        ≡ ⟦<UdpWire<Global, UdpSocket> as Wire>⟧.state wire }
+    ensures peer { peer_of result ≡ peer_of wire }
+{
+    match ask_for_buffer(net, wire.as_raw_fd(), octets) {
+        Some(kept) => wire.note_buffer(kept),
+        None => {}
+    }
+    wire
+}
+
+/// Binds a wire, and requests its buffer size if one is given. Fails first with `Memory` if there is
+/// none for a frame of the wire; then with `Wire` if the own address cannot be bound.
+fn bind_wire<N: Net>(
+    net: &N,
+    alloc: Global,
+    wire: WireAddresses,
+    buffer: Option<u32>,
+) -> Result<UdpWire<Global>, Failure>
+    ensures fresh { IfOk result
+        (λ bound. ⟦<UdpWire<Global, UdpSocket> as Wire>⟧.state bound ≡ new_wire) }
+    ensures peer { IfOk result (λ bound. peer_of bound ≡ wire.peer) }
+    ensures failed { IfErr result
+        (λ failure. (failure ≡ Failure.Memory) ⊎ (failure ≡ Failure.Wire)) }
+{
+    let bound = UdpWire::bind(net, alloc, wire.own, wire.peer)?;
+    match buffer {
+        Some(octets) => Ok(with_buffer(net, bound, octets)),
+        None => Ok(bound),
+    }
+}
+
+/// Binds the wires of a relay, from left to right. Fails as `bind_wire` does.
+pub fn bind_wires<N: Net>(
+    net: &N,
+    alloc: Global,
+    addresses: Addresses,
+    buffer: Option<u32>,
+) -> Result<Wires, Failure>
+    ensures fresh { IfOk result
+        (λ wires. (⟦<UdpWire<Global, UdpSocket> as Wire>⟧.state wires.controlled ≡ new_wire)
+        × (⟦<UdpWire<Global, UdpSocket> as Wire>⟧.state wires.common ≡ new_wire)) }
+    ensures peers { IfOk result (λ wires. (peer_of wires.controlled ≡ addresses.controlled.peer)
+        × (peer_of wires.common ≡ addresses.common.peer)) }
+    ensures failed { IfErr result
+        (λ failure. (failure ≡ Failure.Memory) ⊎ (failure ≡ Failure.Wire)) }
+{
+    let controlled = bind_wire(net, alloc, addresses.controlled, buffer)?;
+    let common = bind_wire(net, alloc, addresses.common, buffer)?;
+    Ok(Wires { controlled, common })
+}
+
+impl Wires {
+    ghost use Rattle.std.specs.Prelude.{◌≡◌, IfSome, List, Result};
+    ghost use Rattle.macs_edge.specs.Attending.{HearsAll, IsAttended};
+    ghost use Rattle.macs_edge.specs.Relaying.{empty_lane, relay_of};
+    ghost use Rattle.macs_edge.specs.Wires.{WireState};
+    ghost use Rattle.macs_edge.specs.declared.attending.DeskEvent.{DeskEvent};
+    ghost use Rattle.macs_edge.specs.declared.relaying.RelaySummary.{RelaySummary};
+    ghost use Rattle.macs_endpoint.specs.declared.fault.RefillFault.{RefillFault};
+    ghost use Rattle.macs_program.specs.Relaying.{Reports, new_wire, turns_of};
+
+    /// Their sockets.
+    pub fn sockets(&self) -> Sockets
+        ensures controlled { IfSome
+            (⟦<UdpWire<Global, UdpSocket> as AsRawFd>⟧.raw_fd self.now.controlled)
+            (λ socket. result.controlled ≡ socket) }
+        ensures common { IfSome (⟦<UdpWire<Global, UdpSocket> as AsRawFd>⟧.raw_fd self.now.common)
+            (λ socket. result.common ≡ socket) }
+    {
+        let controlled = self.controlled.as_raw_fd();
+        let common = self.common.as_raw_fd();
+        Sockets { controlled, common }
+    }
+
+    /// Relays frames between them at this pace, attended by a desk, and prints what became of them.
+    pub fn relay<D: SectorDisk, K: Desk<D, SparedWire, SparedWire>, W: Stream>(
+        self,
+        endpoint: &mut Endpoint<D>,
+        desk: &mut K,
+        pace: Pace,
+        out: &mut W,
+    ) -> Result<Status, Failure>
+        requires controlled { ⟦<UdpWire<Global, UdpSocket> as Wire>⟧.state self.controlled
+            ≡ new_wire }
+        requires common { ⟦<UdpWire<Global, UdpSocket> as Wire>⟧.state self.common ≡ new_wire }
+        ensures { (answer : Result RelaySummary RefillFault) × (events : List DeskEvent)
+            × (controlled common : WireState) × IsAttended D.disk (turns_of pace)
+            (relay_of endpoint.old new_wire new_wire empty_lane empty_lane) events answer
+            endpoint.new controlled common
+            × HearsAll K.hears desk.old events desk.new
+            × Reports W.contents W.failed answer out.old result out.new }
+    {
+        let Wires { controlled, common } = self;
+        let mut controlled = controlled.sparing(left_out(pace));
+        let mut common = common.sparing(left_out(pace));
+        relay_frames(
+            endpoint,
+            &mut controlled,
+            &mut common,
+            desk,
+            turns_of(pace),
+            out,
+        )
+    }
+}
