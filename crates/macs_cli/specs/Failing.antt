@@ -2,9 +2,6 @@
 use Rattle.std.specs.Prelude.{◌≢◌, ℕ, List, codes, string_bytes}
 use Rattle.macs_disk.specs.declared.file_fault.FileFault.{FileFault}
 use Rattle.macs_disk.specs.declared.file_fault.FileFault.TheVariants as file
-use Rattle.macs_commands.specs.declared.files.config_fault.ConfigFault.TheVariants as config
-use Rattle.macs_commands.specs.declared.files.ends.CommandFileFault.{CommandFileFault}
-use Rattle.macs_commands.specs.declared.files.ends.CommandFileFault.TheVariants as told
 use Rattle.macs_edge.specs.declared.udp_wire.BindFault.{BindFault}
 use Rattle.macs_edge.specs.declared.udp_wire.BindFault.TheVariants as bind
 use Rattle.macs_edge.specs.declared.capture_runs.RunFault.{RunFault}
@@ -53,11 +50,6 @@ failure_of_file file.Open = failure.Disk disk.File
 failure_of_file file.Length = failure.Disk disk.Length
 failure_of_file file.Device = failure_of_journal journal.Disk
 failure_of_file file.Memory = failure.Memory
-
--- a command file that is wrong, or out of memory
-abbrev pub failure_of_commands : CommandFileFault → Failure
-failure_of_commands (told.Commands config.Memory) = failure.Memory
-failure_of_commands fault = failure.Commands
 
 -- a refill is not refused because a command is pending
 abbrev pub IsNotBusy : RefillFault → Type 0

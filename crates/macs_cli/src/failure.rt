@@ -9,7 +9,6 @@ use crate::addresses::AddressFault;
 use crate::open_input::InputFault;
 use crate::status::Status;
 use crate::values::ValueFault;
-use macs_commands::{CommandFileFault, ConfigFault};
 use macs_control::{AskFault, ControlFault};
 use macs_disk::FileFault;
 use macs_edge::{BindFault, RunFault};
@@ -261,20 +260,6 @@ impl From<JournalFault> for Failure {
 
     fn from(fault: JournalFault) -> Failure {
         Failure::Disk(DiskFault::Journal(fault))
-    }
-}
-
-impl From<CommandFileFault> for Failure {
-    ghost use Rattle.std.specs.Prelude.{◌≡◌};
-    ghost use Rattle.macs_cli.specs.Failing.{failure_of_commands};
-
-    ghost from_gives = { λ fault failure. failure ≡ failure_of_commands fault };
-
-    fn from(fault: CommandFileFault) -> Failure {
-        match fault {
-            CommandFileFault::Commands(ConfigFault::Memory) => Failure::Memory,
-            _ => Failure::Commands,
-        }
     }
 }
 

@@ -1,6 +1,6 @@
 //! Why a named file cannot be used, and the failure that reports it.
 
-ghost use Rattle.std.specs.Prelude.{◌≡◌, codes, IfOk, string_bytes};
+ghost use Rattle.std.specs.Prelude.{◌≡◌, ℕ, List, codes, IfOk, string_bytes};
 ghost use Rattle.std.specs.IoError.{error_kind};
 ghost use Rattle.std.specs.declared.io.ErrorKind.TheVariants.{OutOfMemory};
 ghost use Rattle.macs_cli.specs.Reasons.{Complains, ComplainsOfDisk, Tells, reason_of};
@@ -81,6 +81,18 @@ pub fn failure_told(alloc: Global, word: &str, name: &str, why: &str) -> Failure
     ensures { Complains (Tells word.now name.now why.now) result }
 {
     match told_of(alloc, word, name, why) {
+        Ok(text) => Failure::Said(text),
+        Err(_) => Failure::Memory,
+    }
+}
+
+/// The failure with this message or `Memory` if there is no
+/// memory for it.
+pub fn failure_saying(text: Result<String, AllocError>) -> Failure
+    ensures { (said : List ℕ) → IfOk text (λ t. string_bytes t ≡ said)
+        → Complains (λ t. t ≡ said) result }
+{
+    match text {
         Ok(text) => Failure::Said(text),
         Err(_) => Failure::Memory,
     }

@@ -22,7 +22,7 @@ pub use addresses::{AddressFault, Addresses, WireAddresses, addresses_of};
 pub use capture_file::CaptureFile;
 pub use failure::{DiskFault, Failure, LinkRefusal, failure_of_refill, failure_of_run};
 pub use file_mode::{mode_of, print_mode};
-pub use file_reason::{FileReason, failure_at, failure_at_disk, failure_told};
+pub use file_reason::{FileReason, failure_at, failure_at_disk, failure_saying, failure_told};
 pub use json_output::{print_json, print_report};
 pub use open_input::{InputFault, MAX_INPUT, OpenInput, SpelledFrame, request_of};
 pub use output::{Line, append_count, append_text, print, print_last, print_octets};

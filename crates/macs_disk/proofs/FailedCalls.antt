@@ -40,8 +40,17 @@ pub not-claimed : (before after : Option (List FailedCall)) (kind : ErrorKind) (
     → MeasureFails before after fault
 not-claimed before after kind fault failed is = inr (Claims, kind, inl refl, failed, is)
 
-pub not-measured : (before between after : Option (List FailedCall)) (kind : ErrorKind) (fault : FileFault)
-    → NoneFailed before between
-    → OneFailed between after Measures kind → IsFaultOfKind kind fault → MeasureFails before after fault
-not-measured before between after kind fault first failed is =
-    inr (Measures, kind, inr refl, one-after before between after Measures kind first failed, is)
+pub not-measured : (before after : Option (List FailedCall)) (kind : ErrorKind) (fault : FileFault)
+    → OneFailed before after Measures kind
+    → IsFaultOfKind kind fault
+    → MeasureFails before after fault
+not-measured before after kind fault failed is = inr (Measures, kind, inr refl, failed, is)
+
+-- after a claim that did not fail
+pub measured-later : (before between after : Option (List FailedCall)) (fault : FileFault) → NoneFailed before between
+    → MeasureFails between after fault
+    → MeasureFails before after fault
+measured-later before between after fault first (inl (is, none)) =
+    inl (is, none-after before between after first none)
+measured-later before between after fault first (inr (call, kind, which, failed, is)) =
+    inr (call, kind, which, one-after before between after call kind first failed, is)

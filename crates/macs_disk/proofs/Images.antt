@@ -29,9 +29,6 @@ synced-image s image fit left = record {
 -- what it may leave after a write, it could leave before but for that sector
 module _ (s : DiskState) (at : ℕ) (octets : List ℕ) (image : Image)
     (left : IsImage (state_after_write s at octets) image) where
-  pub written-here : IsSector (image at)
-  written-here = left.whole at (put-same s.pending at at true refl)
-
   pub written-elsewhere : (i : ℕ) → i ≢ at → s.pending i ≡ false → image i ≡ s.durable i
   written-elsewhere i other clean = left.kept i (put-other s.pending at i true other ∙ clean)
 

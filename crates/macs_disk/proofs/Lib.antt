@@ -18,3 +18,4 @@ pub mod NothingNew
 mod Copies
 pub mod FailedCalls
 pub mod InterruptedCalls
+pub mod DiskCopies

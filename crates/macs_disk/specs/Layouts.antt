@@ -6,6 +6,11 @@ use Rattle.macs_disk.specs.Files.{FileState, values_from}
 use Rattle.macs_disk.specs.declared.layout.Layout.{Layout}
 use Rattle.macs_disk.specs.declared.layout.Layout.TheVariants.{Packed, Spaced}
 
+-- how many octets of its file each sector takes up
+abbrev pub block_of : Layout → ℕ
+block_of Packed = 512
+block_of Spaced = 4096
+
 -- the octet at which a sector begins
 abbrev pub place : Layout → ℕ → ℕ
 place Packed at = 512 * at

@@ -11,3 +11,4 @@ pub mod Layouts
 pub mod FileDisks
 pub mod FileEvidence
 pub mod Evidence
+pub mod DiskCopies

@@ -2,8 +2,7 @@
 
 ghost use Rattle.std.specs.Prelude.{◌≡◌, ◌≢◌, ◌<◌, ◌≤◌, ◌+◌, ◌*◌, ◌/◌, ◌%◌, ◌^◌, IfErr, IfOk};
 ghost use Rattle.std.specs.Prelude.{IsErrOf, OnOk};
-ghost use Rattle.macs_disk.specs.FileFailures.{CopyFails, MeasureFails, NoneFailed};
-ghost use Rattle.macs_disk.specs.FileFailures.{OnlyInterrupted};
+ghost use Rattle.macs_disk.specs.FileFailures.{CopyFails, MeasureFails, OnlyInterrupted};
 ghost use Rattle.macs_disk.specs.FileDisks.{HasFront};
 ghost use Rattle.macs_disk.specs.Files.{Behaves, IsMadeBeside, file_claimed};
 
@@ -31,8 +30,26 @@ pub struct ClaimedFile<F = File> {
     octets: u64,
 }
 
-/// Claims a file, and returns how many octets it has, if they are whole sectors.
-fn measure<F: DiskFile>(file: &mut F) -> Result<u64, FileFault>
+/// How many octets a file has, if they are whole sectors.
+pub(crate) fn measure<F: DiskFile>(file: &mut F) -> Result<u64, FileFault>
+    ensures steady { (F.file file.new).behaves ≡ (F.file file.old).behaves }
+    ensures same { Behaves (F.file file.old) → F.file file.new ≡ F.file file.old }
+    ensures whole { IfOk result (λ octets. octets % 512 ≡ 0) }
+    ensures size { Behaves (F.file file.old)
+        → IfOk result (λ octets. octets ≡ (F.file file.old).size) }
+    ensures length { IsErrOf result FileFault.Length → Behaves (F.file file.old)
+        → (F.file file.old).size % 512 ≢ 0 }
+    ensures cause { IfErr result (MeasureFails (F.failures file.old) (F.failures file.new)) }
+{
+    let octets = file.size()?;
+    if octets % SECTOR_OCTETS != 0 {
+        return Err(FileFault::Length);
+    }
+    Ok(octets)
+}
+
+/// Claims a file, and then measures it.
+fn claim_and_measure<F: DiskFile>(file: &mut F) -> Result<u64, FileFault>
     ensures steady { (F.file file.new).behaves ≡ (F.file file.old).behaves }
     ensures claimed { Behaves (F.file file.old)
         → OnOk result (F.file file.new ≡ file_claimed (F.file file.old)) }
@@ -41,15 +58,10 @@ fn measure<F: DiskFile>(file: &mut F) -> Result<u64, FileFault>
         → IfOk result (λ octets. octets ≡ (F.file file.old).size) }
     ensures length { IsErrOf result FileFault.Length → Behaves (F.file file.old)
         → (F.file file.old).size % 512 ≢ 0 }
-    ensures quiet { OnOk result (NoneFailed (F.failures file.old) (F.failures file.new)) }
     ensures cause { IfErr result (MeasureFails (F.failures file.old) (F.failures file.new)) }
 {
     file.claim()?;
-    let octets = file.size()?;
-    if octets % SECTOR_OCTETS != 0 {
-        return Err(FileFault::Length);
-    }
-    Ok(octets)
+    measure(file)
 }
 
 /// Copies some of the octets from octet `at` on, at most `most`, and returns how many: none if the
@@ -122,7 +134,7 @@ impl<F: DiskFile> ClaimedFile<F> {
         ensures refused { IfErr result (λ fault. (left : F)
             × MeasureFails (F.failures file) (F.failures left) fault) }
     {
-        let octets = measure(&mut file)?;
+        let octets = claim_and_measure(&mut file)?;
         Ok(ClaimedFile { file, octets })
     }
 

@@ -44,11 +44,14 @@ pub struct FileDisk<F = File> {
     sectors: u64,
     clock: u64,
     failures: u64,
+    /// All octets of the file are durable: opening synced it, and no call was made since.
+    is_settled: bool,
     /// A call has failed.
     is_failed: bool,
     ghost fits: { place layout sectors < 2 ^ 64 },
     ghost few: { failures ≤ clock },
     ghost kept: { length past.items ≡ clock },
+    ghost settled: { is_settled ≡ true → clock ≡ 0 },
     ghost current: { is_failed ≡ false → shown.value ≡ file },
 }
 
@@ -88,6 +91,7 @@ impl<F: DiskFile> FileDisk<F> {
             sectors,
             clock: 0,
             failures: 0,
+            is_settled: true,
             is_failed: false,
         }
     }
@@ -114,6 +118,7 @@ impl<F: DiskFile> FileDisk<F> {
         }
         self.past = self.past.and(&self.shown);
         self.clock += 1;
+        self.is_settled = false;
         if self.is_failed {
             self.failures += 1;
             return Err(DeviceFault);
@@ -243,8 +248,8 @@ impl<F: DiskFile> SectorDisk for FileDisk<F> {
         self.count(answer)
     }
 
-    /// If the first call of a disk is a sync, it leaves the file alone: opening synced it. If a
-    /// sync fails, the file is in doubt, and is neither synced nor written any more.
+    /// A settled file is not synced again. If a sync fails, the file is in doubt, and is neither
+    /// synced nor written any more.
     fn sync(&mut self) -> Result<(), DeviceFault>
         ensures call { IsDeviceCall (disk_in_file F.file self.old)
             (disk_in_file F.file self.new) result }
@@ -260,8 +265,9 @@ impl<F: DiskFile> SectorDisk for FileDisk<F> {
         ensures left { IsLeftAsShown F.file self.old → IsLeftAsShown F.file self.new }
         ensures again { IsFoundAgain F.file self.old → IsFoundAgain F.file self.new }
     {
+        let is_settled = self.is_settled;
         self.begin()?;
-        if self.clock == 1 {
+        if is_settled {
             return Ok(());
         }
         self.sync_file()

@@ -1,7 +1,7 @@
 //! The layout of a disk's sectors in its file.
 
 ghost use Rattle.std.specs.Prelude.{◌≡◌, ◌<◌, ◌^◌};
-ghost use Rattle.macs_disk.specs.Layouts.{is_marked, mark, place, sectors_in};
+ghost use Rattle.macs_disk.specs.Layouts.{block_of, is_marked, mark, place, sectors_in};
 
 /// How many octets a sector has.
 pub(crate) const SECTOR_OCTETS: u64 = 512;
@@ -32,6 +32,16 @@ pub enum Layout {
 }
 
 impl Layout {
+    /// How many octets of its file each sector takes up.
+    pub fn block(self) -> u64
+        ensures { result ≡ block_of self }
+    {
+        match self {
+            Layout::Packed => SECTOR_OCTETS,
+            Layout::Spaced => BLOCK_OCTETS,
+        }
+    }
+
     /// The octet in the file at which sector `at` begins.
     pub(crate) fn place(self, at: u64) -> u64
         requires { place self at < 2 ^ 64 }

@@ -5,6 +5,7 @@ mod call_list;
 mod claimed_file;
 mod clearing;
 mod disk;
+mod disk_copy;
 mod disk_file;
 mod file;
 mod file_calls;
@@ -20,6 +21,7 @@ mod settled_file;
 
 pub use claimed_file::ClaimedFile;
 pub use disk::{DeviceFault, SectorDisk};
+pub use disk_copy::{DiskCopy, copy_disk};
 pub use disk_file::DiskFile;
 pub use file::FileDisk;
 pub use file_calls::read_exact_at;

@@ -40,7 +40,7 @@ struct Extent {
 }
 
 /// Finds the layout of a settled file of `octets` octets.
-fn find_layout<F: DiskFile>(file: &mut F, octets: u64) -> Result<Layout, DeviceFault>
+pub(crate) fn find_layout<F: DiskFile>(file: &mut F, octets: u64) -> Result<Layout, DeviceFault>
     ensures steady { (F.file file.new).behaves ≡ (F.file file.old).behaves }
     ensures same { Behaves (F.file file.old) → F.file file.new ≡ F.file file.old }
     ensures found { Behaves (F.file file.old)

@@ -24,7 +24,7 @@ use Rattle.macs_store.specs.Stepping.{Finishes, HasInHand, Steps}
 use Rattle.macs_store.specs.Table.{standing_of}
 use Rattle.macs_store.specs.Value.{IsIdle, IsStored, standing_in, standing_then}
 use Rattle.macs_store.specs.Value as store
-use Rattle.macs_store.specs.declared.change.Change.{Change}
+use Rattle.macs_store.specs.Kept.{Change}
 use Rattle.macs_endpoint.specs.Ceilings.{Raise, standing_with_raise, standing_with_reserved}
 use Rattle.macs_endpoint.specs.Faults.{refill_fault_of}
 use Rattle.macs_endpoint.specs.Needed.{raise_in}

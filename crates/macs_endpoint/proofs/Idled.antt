@@ -2,8 +2,7 @@
 use Rattle.std.proofs.Common.{◌≡◌, ◌⊎◌, inl, inr, false, Option, Some, None, Ok, refl}
 use Rattle.macs_disk.specs.Disk.{Disk}
 use Rattle.macs_store.specs.Value.{IsIdle}
-use Rattle.macs_store.specs.declared.change.Change.{Change}
-use Rattle.macs_store.specs.declared.change.Change.TheVariants.{Appending, Empty, Renewing}
+use Rattle.macs_store.specs.Kept.{Appending, Change, Empty, Renewing}
 use Rattle.macs_endpoint.specs.Advancing.{BeginsWith, Piece, ToKeep, ToRaise, next_piece, piece_among}
 use Rattle.macs_endpoint.specs.Calls.{IsCall}
 use Rattle.macs_endpoint.specs.Ceilings.{Raise}

@@ -20,7 +20,7 @@ use Rattle.macs_store.specs.Found.{StandsFor, StandsForEither}
 use Rattle.macs_store.specs.Standing.{Ceilings, Standing}
 use Rattle.macs_store.specs.Value.{IsIdle, IsStored, standing_in, standing_then}
 use Rattle.macs_store.specs.Value as store
-use Rattle.macs_store.specs.declared.change.Change.{Change}
+use Rattle.macs_store.specs.Kept.{Change}
 use Rattle.macs_store.proofs.Keeping.{in_hand-image}
 use Rattle.macs_endpoint.specs.Ceilings.{Raise, RaiseRx, RaiseTx, standing_with_raise}
 use Rattle.macs_endpoint.specs.Restart.{Fits, rx_limit}

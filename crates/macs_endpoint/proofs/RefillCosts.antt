@@ -9,7 +9,7 @@ use Rattle.macs_store.specs.Standing.{Standing}
 use Rattle.macs_store.specs.Value.{IsIdle, StoreValue, calls_left, calls_with, generation, generation_then}
 use Rattle.macs_store.specs.Value.{generation_with, slots_then, slots_with, standing_in, used_slots}
 use Rattle.macs_store.specs.Value as store
-use Rattle.macs_store.specs.declared.change.Change.{Change}
+use Rattle.macs_store.specs.Kept.{Change}
 use Rattle.macs_endpoint.specs.Ceilings.{Raise, Raises, first_raise, standing_with_raise, standing_with_reserved}
 use Rattle.macs_endpoint.specs.Reserving.{Raised, ReservationEnds}
 use Rattle.macs_endpoint.specs.RefillCosts.{HasRaised, RaisesBehind, Spends, generation_in_raises, most_behind}

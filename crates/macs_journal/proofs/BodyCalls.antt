@@ -1,16 +1,33 @@
 -- Device calls that write the bodies of an area, one by one.
-use Rattle.std.proofs.Common.{◌≡◌, ◌≢◌, ◌<◌, ◌+◌, inl, inr, ℕ, refl, sym, ◌∙◌, ap, subst, arith, List, length}
+use Rattle.std.proofs.Common.{◌≡◌, ◌≢◌, ◌<◌, ◌+◌, inl, inr, ℕ, refl, sym, ◌∙◌, ap, subst, arith, List, length, Result}
+use Rattle.std.proofs.Common.{Ok, Err, OnOk}
 use Rattle.std.proofs.lemmas.Bool.{cases_eq}
-use Rattle.macs_disk.specs.Disk.{Disk, Works, now}
+use Rattle.macs_disk.specs.Disk.{Disk, IsHonest, Works, Writes, now}
 use Rattle.macs_disk.specs.States.{DiskState, state_after_write}
 use Rattle.macs_disk.proofs.Images.{put-same}
 use Rattle.macs_disk.proofs.Moments.{Works-on}
+use Rattle.macs_record.specs.Decoding.{IsSectorOf}
 use Rattle.macs_record.specs.Heads.{Head, IsHeadOf}
 use Rattle.macs_record.specs.declared.record.Record.{Record}
 use Rattle.macs_journal.specs.Areas.{head_body, slot_body}
 use Rattle.macs_journal.specs.Stages.{AreBodiesWritten, IsBodyOf, IsCleared, IsFilling}
 use Rattle.macs_journal.specs.Work.{IsSpared}
 use Rattle.macs_journal.proofs.Spared.{Spared-on, Spared-seen}
+
+-- what holds after any answer holds after one that is no error
+pub always : {T E : Type 0} (answer : Result T E) (P : Type 0) → P → OnOk answer P
+always (Ok x) P holds = holds
+always (Err e) P holds = tt
+
+-- a record that was written is read
+pub written-record : {T E : Type 0} (d new : Disk) (at : ℕ) (r : Record) (answer : Result T E)
+    → (IsHonest new → (octets : List ℕ) × IsSectorOf r octets × Writes (now d) (now new) at octets answer)
+    → OnOk answer (IsHonest new → IsSectorOf r ((now new).seen at))
+written-record d new at r (Ok x) does = λ honest.
+    let (octets, is, writes) = does honest in
+    subst (IsSectorOf r)
+    (sym (ap (λ (s : DiskState). s.seen at) writes.ok ∙ put-same (now d).seen at at octets refl)) is
+written-record d new at r (Err e) does = tt
 
 -- the body of the head is written
 pub head-written : (began d new : Disk) (area : ℕ) (head : Head) (records : List Record) (octets : List ℕ)

@@ -17,8 +17,7 @@ use Rattle.macs_journal.specs.Appending.{IsReady}
 use Rattle.macs_journal.specs.Areas.{gate, gates, head_body, slot_body}
 use Rattle.macs_journal.specs.Formatting.{FormatWrites, IsBlank, IsNewOrNone, first_content, first_head}
 use Rattle.macs_journal.specs.Found.{HasJournal, IsGateOpen, IsNotFormatted}
-use Rattle.macs_journal.specs.Rewriting.{AreBodies, AreClosed, HasNewGates, IsNoBody, IsNoOpenGate, IsSettled}
-use Rattle.macs_journal.specs.Rewriting.{IsOldOrOpening}
+use Rattle.macs_journal.specs.Rewriting.{AreClosed, HasNewGates, IsNoOpenGate, IsOldOrOpening, IsSettled}
 use Rattle.macs_journal.specs.Work.{IsSpared}
 use Rattle.macs_journal.proofs.Appends.{open_or_closed}
 use Rattle.macs_journal.proofs.Blank.{blank-leaves}
@@ -33,21 +32,18 @@ one_item r other j at =
     (here, cc)
 
 -- the bodies were written
-module _ (old mid : Disk) (to_mid : Works old mid) (bodies : (i : ℕ) → i ≢ head_body 0 → IsNoBody 0 1 i
+module _ (old mid : Disk) (to_mid : Works old mid) (bodies : (i : ℕ) → i ≢ head_body 0 → i ≢ slot_body 0 0
     → IsSpared old mid i) where
-  bodies-but : (i : ℕ) → i ≢ 0 → i ≢ 2 → IsSpared old mid i
-  bodies-but i not_head not_body = bodies i not_head (λ j lt here. not_body (omega (arith, lt, here)))
-
   pub spared-bodies : (i : ℕ) → (¬ FormatWrites (now old).seen i) → IsSpared old mid i
-  spared-bodies i apart = bodies-but i (λ here. apart (inl (inl here))) (λ here. apart (inl (inr (inl here))))
+  spared-bodies i apart = bodies i (λ here. apart (inl (inl here))) (λ here. apart (inl (inr (inl here))))
 
   -- gates read as before
   gate-same : (k : ℕ) → (now mid).seen (gate 0 k) ≡ (now old).seen (gate 0 k)
-  gate-same k = Spared-seen old mid (gate 0 k) to_mid (bodies-but (gate 0 k) (omega arith) (omega arith))
+  gate-same k = Spared-seen old mid (gate 0 k) to_mid (bodies (gate 0 k) (omega arith) (omega arith))
 
   pub leaves-bodies : IsBlank (now old) → Leaves old mid IsNotFormatted
   leaves-bodies blank =
-      blank-leaves old mid blank to_mid (λ area le. bodies-but (gate area 0) (omega arith) (omega arith))
+      blank-leaves old mid blank to_mid (λ area le. bodies (gate area 0) (omega arith) (omega arith))
 
   -- and the gates of slots that read open were closed
   module _ (full : Disk) (to_full : Works mid full) (closing : (i : ℕ) → IsNoOpenGate (now mid).seen 0 1 gates i
@@ -73,7 +69,7 @@ module _ (old mid : Disk) (to_mid : Works old mid) (bodies : (i : ℕ) → i ≢
     leaves-closing blank =
         blank-leaves old full blank (Works-on old mid full to_mid to_full)
         (λ area le. Spared-on old mid full (gate area 0) to_mid to_full
-        (bodies-but (gate area 0) (omega arith) (omega arith)) (head-gates area le))
+        (bodies (gate area 0) (omega arith) (omega arith)) (head-gates area le))
 
     -- a sector that is no gate reads as before
     body-same : (i : ℕ) → ((k : ℕ) → i ≢ gate 0 k) → (now full).seen i ≡ (now mid).seen i
@@ -83,12 +79,12 @@ module _ (old mid : Disk) (to_mid : Works old mid) (bodies : (i : ℕ) → i ≢
     module _ (identity : Identity) (blank : IsBlank (now old))
         (closed : AreClosed (now mid).seen (now full).seen 0 1 gates)
         (head_is : IsHeadOf (first_head identity) ((now mid).seen (head_body 0)))
-        (body : AreBodies (now mid).seen 0 (default_settings ∷ [])) where
+        (body : IsSectorOf default_settings ((now mid).seen (slot_body 0 0))) where
       second-closed : (image : Image) → ((i : ℕ) → i ≢ gate 0 0 → image i ≡ (now full).seen i) → ¬ IsGateOpen image 1 0
       second-closed image same opens =
           let here : image (gate 1 0) ≡ (now old).durable (gate 1 0) =
           same (gate 1 0) (omega arith) ∙ Spared-seen mid full (gate 1 0) to_full (head-gates 1 (omega arith))
-          ∙ Spared-seen old mid (gate 1 0) to_mid (bodies-but (gate 1 0) (omega arith) (omega arith))
+          ∙ Spared-seen old mid (gate 1 0) to_mid (bodies (gate 1 0) (omega arith) (omega arith))
           ∙ blank.fresh 1 (omega arith) in
           blank.closed.1 (subst IsOpen here opens)
 
@@ -109,8 +105,10 @@ module _ (old mid : Disk) (to_mid : Works old mid) (bodies : (i : ℕ) → i ≢
               (subst IsOpen (same (gate 0 (j + 1)) (omega arith)) is);
           bodies = λ j r at.
               let one = one_item default_settings r j at in
-              subst (IsSectorOf r) (sym (same (slot_body 0 j) (omega arith)
-              ∙ body-same (slot_body 0 j) (λ k. omega arith))) (body j r at);
+              subst (λ (x : Record). IsSectorOf x (image (slot_body 0 j))) one.1
+              (subst (λ (k : ℕ). IsSectorOf default_settings (image (slot_body 0 k))) (sym one.0)
+              (subst (IsSectorOf default_settings) (sym (same (slot_body 0 0) (omega arith)
+              ∙ body-same (slot_body 0 0) (λ k. omega arith))) body));
         };
         past = λ is. absurd (second-closed image same is);
       }

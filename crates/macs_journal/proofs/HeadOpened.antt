@@ -1,10 +1,10 @@
 -- What a power loss leaves while a head gate is opened.
-use Rattle.std.proofs.Common.{◌≡◌, ◌<◌, ◌≤◌, ◌⊎◌, ◌+◌, inl, inr, ℕ, refl, sym, ◌∙◌, ap, subst, arith, true, List}
+use Rattle.std.proofs.Common.{◌≡◌, ◌<◌, ◌≤◌, ◌⊎◌, inl, inr, ℕ, refl, sym, ◌∙◌, ap, subst, arith, true, List}
 use Rattle.std.proofs.Common.{replicate}
 use Rattle.std.proofs.lemmas.Bool.{cases_lt}
 use Rattle.macs_disk.specs.States.{DiskState, Image, IsImage, state_after_sync, state_after_write}
 use Rattle.macs_disk.specs.Disk.{Disk, MayLeave, Works}
-use Rattle.macs_disk.specs.Runs.{Leaves, LeavesNothingNew}
+use Rattle.macs_disk.specs.Runs.{Leaves}
 use Rattle.macs_disk.proofs.Images.{put-other, synced-image}
 use Rattle.macs_disk.proofs.Moments.{Leaves-now}
 use Rattle.macs_record.specs.Gates.{IsOpen, open_gate}
@@ -43,11 +43,3 @@ left-until old mid new P limit leaves works between k from until lt image left =
   | inr before ↦ leaves.each image
       (k, from, before, subst (λ (s : DiskState). IsImage s image) (works.past k before) left)
 ]
-
--- a first call that leaves nothing new, with others after it
-pub first-left : (old mid new : Disk) → LeavesNothingNew old mid → Works mid new → mid.clock ≡ old.clock + 1
-    → (k : ℕ) → old.clock ≤ k → k ≤ new.clock → k < old.clock + 2 → (image : Image) → IsImage (new.past k) image
-    → MayLeave old image
-first-left old mid new nothing works one k from until lt image left =
-    let before : k ≤ mid.clock = omega (arith, one, lt) in
-    nothing.each image (k, from, before, subst (λ (s : DiskState). IsImage s image) (works.past k before) left)

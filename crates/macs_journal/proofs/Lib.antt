@@ -25,3 +25,7 @@ pub mod Tasks
 pub mod Steps
 pub mod Advancing
 pub mod Recovering
+pub mod Holes
+pub mod Looks
+pub mod Faults
+pub mod OnlyReads

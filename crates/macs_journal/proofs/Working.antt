@@ -1,5 +1,5 @@
 -- Calls of a disk, and an answer that reports them in a type of its own.
-use Rattle.std.proofs.Common.{◌≡◌, ◌+◌, refl, Bool, true, false, Result, Ok, Err, IsErr, IfOk, OnOk, is_err}
+use Rattle.std.proofs.Common.{◌≡◌, ◌+◌, ◌∙◌, refl, Bool, true, false, Result, Ok, Err, IsErr, IfOk, OnOk, is_err}
 use Rattle.macs_disk.specs.Disk.{Disk, FailsOnce, IsDeviceCall, IsWork, Works}
 use Rattle.macs_disk.proofs.Moments.{FailsOnce-before, Works-on}
 
@@ -13,6 +13,17 @@ pub failed-later : {T E : Type 0} (old mid new : Disk) (answer : Result T E) →
     → mid.failures ≡ old.failures → Works mid new → FailsOnce mid new → IsWork old new answer
 failed-later old mid new answer is first steady second once =
     failed old new answer is (Works-on old mid new first second) (FailsOnce-before old mid new steady once)
+
+-- the answer is that of the last run
+pub work-then : {T E : Type 0} (old mid new : Disk) (answer : Result T E) → Works old mid
+    → mid.failures ≡ old.failures → IsWork mid new answer → IsWork old new answer
+work-then old mid new (Ok x) first steady second =
+    record { works = Works-on old mid new first second.works; ok = second.ok ∙ steady; err = tt }
+work-then old mid new (Err e) first steady second = record {
+  works = Works-on old mid new first second.works;
+  ok = tt;
+  err = FailsOnce-before old mid new steady second.err;
+}
 
 -- what is said of Ok is not owed where the answer is an error
 pub not-owed : {T E : Type 0} (P : T → Type 0) (answer : Result T E) → IsErr answer → IfOk answer P

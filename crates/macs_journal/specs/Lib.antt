@@ -11,3 +11,5 @@ pub mod Recovery
 pub mod Opening
 pub mod Compacting
 pub mod Stepping
+pub mod Contents
+pub mod FirstFault

@@ -7,10 +7,10 @@ ghost use Rattle.macs_journal.specs.Areas.{other_area, slot_body, slots};
 use std::marker::Model;
 
 /// How many sectors a disk needs: any after them are never touched.
-pub(crate) const LEAST_SECTORS: u64 = 1_028;
+pub const LEAST_SECTORS: u64 = 1_028;
 
 /// How many slots an area has.
-pub(crate) const SLOTS: u64 = 256;
+pub const SLOTS: u64 = 256;
 
 /// How many gates an area has: that of its head, and those of its slots.
 pub(crate) const GATES: u64 = 1 + SLOTS;

@@ -8,11 +8,11 @@ ghost use Rattle.macs_journal.specs.Stages.{IsCompactStage, IsUnderWay, compact_
 ghost use Rattle.macs_journal.specs.Stages.{compact_left_next};
 
 use crate::area::Area;
+use crate::bodies::{write_head, write_record};
 use crate::compact_stage::CompactStage;
 use crate::record_source::RecordSource;
 use macs_disk::{DeviceFault, SectorDisk};
-use macs_record::laws::{head_in_range, record_in_range};
-use macs_record::{CLOSED_GATE, Head, SECTOR, encode, encode_head, is_open, open_gate};
+use macs_record::{CLOSED_GATE, Head, SECTOR, is_open, open_gate};
 
 /// One device call of a compaction of the records of a source into an area with this head, which
 /// counts them: a record is read when its body is written, and at no other call. Returns the next
@@ -67,14 +67,10 @@ fn call<D: SectorDisk, R: RecordSource>(
         CompactStage::CloseGate(k) => disk.write(area.gate(k), &CLOSED_GATE),
         // The gates are closed before a body after them changes.
         CompactStage::GatesSync => disk.sync(),
-        CompactStage::HeadBody => {
-            head_in_range(head);
-            disk.write(area.head_body(), &encode_head(head))
-        }
+        CompactStage::HeadBody => write_head(disk, area, head),
         CompactStage::Body(slot) => {
             let value = records.at(slot as usize).unwrap();
-            record_in_range(&value);
-            disk.write(area.slot_body(slot), &encode(&value))
+            write_record(disk, area, slot, &value)
         }
         // The bodies and the closed gates are durable before the head is opened.
         CompactStage::BodiesSync => disk.sync(),

@@ -1,12 +1,15 @@
 //! Making a journal on a disk.
 
-ghost use Rattle.std.specs.Prelude.{◌≡◌, ◌≤◌, ℕ, false, true, IfOk, OnOk};
+ghost use Rattle.std.specs.Prelude.{◌≡◌, ◌≢◌, ◌≤◌, ℕ, false, true, IfOk, OnOk};
 ghost use Rattle.macs_config.specs.Identity.{Identity};
 ghost use Rattle.macs_disk.specs.Disk.{IsHonest, IsWork, now};
 ghost use Rattle.macs_disk.specs.Runs.{Leaves, LeavesNothingNew};
 ghost use Rattle.macs_disk.specs.States.{state_after_sync};
+ghost use Rattle.macs_record.specs.Decoding.{IsSectorOf};
+ghost use Rattle.macs_record.specs.Heads.{IsHeadOf};
+ghost use Rattle.macs_record.specs.Settings.{default_settings};
 ghost use Rattle.macs_journal.specs.Appending.{IsReady};
-ghost use Rattle.macs_journal.specs.Areas.{least_sectors};
+ghost use Rattle.macs_journal.specs.Areas.{head_body, least_sectors, slot_body};
 ghost use Rattle.macs_journal.specs.Found.{IsGateOpen, IsNotFormatted};
 ghost use Rattle.macs_journal.specs.Formatting.{FormatWrites, HasOpenHead, IsBlank};
 ghost use Rattle.macs_journal.specs.Formatting.{IsJournalFormat, IsNewOrNone, first_content};
@@ -15,7 +18,7 @@ ghost use Rattle.macs_journal.specs.Rewriting.{HasNewGates};
 ghost use Rattle.macs_journal.specs.Work.{IsSpared};
 
 use crate::area::{Area, LEAST_SECTORS};
-use crate::bodies::write_bodies;
+use crate::bodies::{write_head, write_record};
 use crate::fault::JournalFault;
 use crate::gates::close_gates;
 use crate::head_gate::open_head;
@@ -82,12 +85,26 @@ fn fill<D: SectorDisk>(disk: &mut D, identity: &Identity) -> Result<(), DeviceFa
         → IsSpared (D.disk disk.old) (D.disk disk.new) i }
 {
     let head = first_head(identity);
-    let records = [Record::default()];
     let area = Area::first();
-    write_bodies(disk, area, &head, &records)?;
+    write_bodies(disk, area, &head)?;
     close_gates(disk, area, 1)?;
     open_head(disk, area)?;
     Ok(())
+}
+
+/// Writes the bodies of an area's head, and of the one record of a new journal.
+fn write_bodies<D: SectorDisk>(disk: &mut D, area: Area, head: &Head) -> Result<(), DeviceFault>
+    requires { least_sectors ≤ (D.disk disk.old).sectors }
+    ensures work { IsWork (D.disk disk.old) (D.disk disk.new) result }
+    ensures head { OnOk result (IsHonest (D.disk disk.new)
+        → IsHeadOf head.now ((now (D.disk disk.new)).seen (head_body area))) }
+    ensures body { OnOk result (IsHonest (D.disk disk.new)
+        → IsSectorOf default_settings ((now (D.disk disk.new)).seen (slot_body area 0))) }
+    ensures others { IsHonest (D.disk disk.new) → (i : ℕ) → i ≢ head_body area
+        → i ≢ slot_body area 0 → IsSpared (D.disk disk.old) (D.disk disk.new) i }
+{
+    write_head(disk, area, head)?;
+    write_record(disk, area, 0, &Record::default())
 }
 
 /// The head of a new journal.

@@ -1,10 +1,9 @@
 //! Closing the gates of an area.
 
-ghost use Rattle.std.specs.Prelude.{◌≡◌, ◌≢◌, ◌<◌, ◌≤◌, ◌+◌, ℕ, OnOk};
+ghost use Rattle.std.specs.Prelude.{◌≡◌, ◌≢◌, ◌<◌, ◌≤◌, ℕ, OnOk};
 ghost use Rattle.macs_disk.specs.Disk.{IsHonest, IsWork, now};
 ghost use Rattle.macs_record.specs.Gates.{closed_gate};
 ghost use Rattle.macs_journal.specs.Areas.{gate, gates, least_sectors};
-ghost use Rattle.macs_journal.specs.Compacting.{HasOpenGates};
 ghost use Rattle.macs_journal.specs.Found.{IsGateOpen};
 ghost use Rattle.macs_journal.specs.Rewriting.{AreClosed, IsNoOpenGate};
 ghost use Rattle.macs_journal.specs.Work.{IsSpared};
@@ -22,10 +21,6 @@ pub(crate) fn close_gates<D: SectorDisk>(
     requires room { first ≤ gates }
     requires size { least_sectors ≤ (D.disk disk.old).sectors }
     ensures work { IsWork (D.disk disk.old) (D.disk disk.new) result }
-    ensures most { (D.disk disk.new).clock ≤ (D.disk disk.old).clock + 514 }
-    ensures calls { OnOk result (IsHonest (D.disk disk.new) → first ≡ 0 → (opened : ℕ)
-        → HasOpenGates (now (D.disk disk.old)).seen area gates opened
-        → (D.disk disk.new).clock ≡ (D.disk disk.old).clock + (257 + opened)) }
     ensures closed { OnOk result (IsHonest (D.disk disk.new)
         → AreClosed (now (D.disk disk.old)).seen (now (D.disk disk.new)).seen area first gates) }
     ensures others { IsHonest (D.disk disk.new) → (i : ℕ)
@@ -43,13 +38,6 @@ fn close_gate<D: SectorDisk>(disk: &mut D, area: Area, k: u64) -> Result<(), Dev
     requires room { k < gates }
     requires size { least_sectors ≤ (D.disk disk.old).sectors }
     ensures work { IsWork (D.disk disk.old) (D.disk disk.new) result }
-    ensures most { (D.disk disk.new).clock ≤ (D.disk disk.old).clock + 2 }
-    ensures one { OnOk result (IsHonest (D.disk disk.new)
-        → ¬ IsGateOpen (now (D.disk disk.old)).seen area k
-        → (D.disk disk.new).clock ≡ (D.disk disk.old).clock + 1) }
-    ensures two { OnOk result (IsHonest (D.disk disk.new)
-        → IsGateOpen (now (D.disk disk.old)).seen area k
-        → (D.disk disk.new).clock ≡ (D.disk disk.old).clock + 2) }
     ensures gate { OnOk result (IsHonest (D.disk disk.new)
         → IsGateOpen (now (D.disk disk.old)).seen area k
         → (now (D.disk disk.new)).seen (gate area k) ≡ closed_gate) }

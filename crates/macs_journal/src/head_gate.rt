@@ -1,9 +1,8 @@
 //! Opening a head gate.
 
-ghost use Rattle.std.specs.Prelude.{◌≡◌, ◌≢◌, ◌<◌, ◌≤◌, ◌+◌, ℕ, OnOk};
-ghost use Rattle.macs_disk.specs.Disk.{IsHonest, IsWork, MayLeave, now};
+ghost use Rattle.std.specs.Prelude.{◌≡◌, ◌≢◌, ◌≤◌, ℕ, OnOk};
+ghost use Rattle.macs_disk.specs.Disk.{IsHonest, IsWork, now};
 ghost use Rattle.macs_disk.specs.Runs.{Leaves};
-ghost use Rattle.macs_disk.specs.States.{Image, IsImage};
 ghost use Rattle.macs_record.specs.Gates.{open_gate};
 ghost use Rattle.macs_journal.specs.Areas.{gate, least_sectors};
 ghost use Rattle.macs_journal.specs.Rewriting.{IsOldOrOpening, IsSettled};
@@ -17,12 +16,6 @@ use macs_record::open_gate;
 pub(crate) fn open_head<D: SectorDisk>(disk: &mut D, area: Area) -> Result<(), DeviceFault>
     requires size { least_sectors ≤ (D.disk disk.old).sectors }
     ensures work { IsWork (D.disk disk.old) (D.disk disk.new) result }
-    ensures most { (D.disk disk.new).clock ≤ (D.disk disk.old).clock + 3 }
-    ensures calls { OnOk result ((D.disk disk.new).clock ≡ (D.disk disk.old).clock + 3) }
-    ensures until { IsHonest (D.disk disk.new) → (k : ℕ) → (D.disk disk.old).clock ≤ k
-        → k ≤ (D.disk disk.new).clock
-        → k < (D.disk disk.old).clock + 2 → (image : Image)
-        → IsImage ((D.disk disk.new).past k) image → MayLeave (D.disk disk.old) image }
     ensures images { IsHonest (D.disk disk.new)
         → Leaves (D.disk disk.old) (D.disk disk.new) (IsOldOrOpening (now (D.disk disk.old)) area) }
     ensures settled { OnOk result (IsHonest (D.disk disk.new) → IsSettled (now (D.disk disk.new))) }

@@ -4,10 +4,12 @@
 
 mod appending;
 mod area;
+mod bad_journal;
 mod bodies;
 mod compact_calls;
 mod compact_stage;
 mod compaction;
+mod contents;
 mod fault;
 mod formatting;
 mod gates;
@@ -23,6 +25,9 @@ mod slots;
 mod stepping;
 mod work;
 
+pub use area::{LEAST_SECTORS, SLOTS};
+pub use bad_journal::first_fault;
+pub use contents::{Contents, contents_of, holds_endpoint};
 pub use fault::JournalFault;
 pub use formatting::format;
 pub use journal::Journal;

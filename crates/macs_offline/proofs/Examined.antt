@@ -1,19 +1,12 @@
 -- What is said of the disk in a file, and how that fails.
-use Rattle.std.proofs.Common.{◌≡◌, ◌≢◌, ◌≤◌, ◌⊎◌, ◌∙◌, ◌/◌, ◌%◌, inl, inr, ℕ, Bool, List, length, Option, Result, Ok}
-use Rattle.std.proofs.Common.{Err, ap, refl, subst, sym}
+use Rattle.std.proofs.Common.{◌≡◌, ◌≢◌, ◌≤◌, ◌⊎◌, ◌∙◌, inl, inr, ℕ, Bool, List, length, Option, Ok, Err, ap, refl, subst}
+use Rattle.std.proofs.Common.{sym}
 use Rattle.std.specs.Io.KnownBytes.{Appends}
-use Rattle.std.specs.Prelude.{IsErrOf}
-use Rattle.std.specs.declared.alloc.Global.{Global}
 use Rattle.macs_config.specs.Config.{this_edition}
 use Rattle.macs_disk.specs.Disk.{Disk, now}
-use Rattle.macs_disk.specs.Files.{Behaves, FileState}
-use Rattle.macs_disk.specs.Layouts.{layout_in}
-use Rattle.macs_disk.specs.MemDisks.{disk_of}
+use Rattle.macs_disk.specs.Files.{FileState}
 use Rattle.macs_disk.specs.States.{DiskState, Image}
-use Rattle.macs_disk.specs.declared.file_fault.FileFault.{FileFault}
-use Rattle.macs_disk.specs.declared.file_fault.FileFault.TheVariants as file_faults
 use Rattle.macs_disk.specs.declared.layout.Layout.{Layout}
-use Rattle.macs_disk.specs.declared.memory.MemDisk.{MemDisk}
 use Rattle.macs_journal.specs.Areas.{least_sectors}
 use Rattle.macs_journal.specs.Found.{Content, HasJournal, IsBadJournal, JournalIs}
 use Rattle.macs_journal.specs.Recovery.{IsLeftBy}
@@ -24,8 +17,7 @@ use Rattle.macs_record.specs.declared.format.Format.{Format}
 use Rattle.macs_store.specs.Found.{IsUnfitTo, StandingIs}
 use Rattle.macs_store.specs.Replay.{meaning_of}
 use Rattle.macs_store.specs.Standing.{Standing}
-use Rattle.macs_offline.specs.Copying.{CopyFails, IsCopy}
-use Rattle.macs_offline.specs.Examining.{ExaminationFails, ExamineFails, ExaminesIn, IsJournalOf, IsLaidCopy}
+use Rattle.macs_offline.specs.Examining.{ExaminationFails, ExamineFails, ExaminesIn, IsJournalOf}
 use Rattle.macs_offline.specs.Examining.{IsNotExamined, IsNotOpened, PrintsExamined, Says, figures_of, said_text}
 use Rattle.macs_cli.specs.Failing.{failure_status}
 use Rattle.macs_offline.specs.Trying.{failure_in_memory}
@@ -34,9 +26,7 @@ use Rattle.macs_cli.specs.declared.failure.Failure.{Failure}
 use Rattle.macs_cli.specs.declared.failure.Failure.TheVariants as failures
 use Rattle.macs_cli.specs.declared.status.Status.{Status}
 use Rattle.macs_cli.specs.declared.status.Status.TheVariants.{Done, Refused, Usage}
-use Rattle.macs_cli.specs.declared.status.Status.TheVariants as statuses
-use Rattle.macs_offline.proofs.Failures.{IsOfCopy, IsOfDisk, copy-no-usage, of-file, of-unread}
-use Rattle.macs_offline.proofs.Looks.{carried}
+use Rattle.macs_offline.proofs.Failures.{IsOfCopy, copy-no-usage, of-copy, of-unread}
 
 -- ---- the journal
 
@@ -111,18 +101,14 @@ bad-found copy fault same known =
 pub left-bad : (copy left : Disk) (fault : JournalFault) → fault ≡ journal.BadJournal
     → (fault ≢ journal.Disk → JournalIs copy.sectors (now copy).seen (Err fault)) → left.sectors ≡ copy.sectors
     → IsLeftBy fault (now copy) (now left)
-    → (least_sectors ≤ left.sectors) × ((now left).durable ≡ (now copy).seen)
+    → (least_sectors ≤ left.sectors) × ((now left).seen ≡ (now copy).seen)
 left-bad copy left fault same known sectors kept =
     let synced = subst (λ (f : JournalFault). IsLeftBy f (now copy) (now left)) same kept in (
       subst (λ (n : ℕ). least_sectors ≤ n) (sym sectors) (bad-found copy fault same known).0,
-      ap (λ (s : DiskState). s.durable) synced,
+      ap (λ (s : DiskState). s.seen) synced,
     )
 
 -- ---- failures
-
-of-copy : (file : FileState) (failure : Failure) → CopyFails file failure → IsOfDisk failure
-of-copy file failure (inl (fault, is, length)) = of-file fault failure is
-of-copy file failure (inr (is, few)) = inr (disk.Journal journal.TooSmall, is)
 
 -- want of memory, or a fault of the disk or of its file
 pub of-examination : {F : Type 0} (state_of : F → FileState) (name : List ℕ) (failure : Failure)
@@ -146,15 +132,6 @@ pub said-status : (image : Image) (layout : Layout) (text : List ℕ) (status : 
 said-status image layout text status (inl (content, standing, journal, is, done)) = inl done
 said-status image layout text status (inr (at, fault, is, refused)) = inr refused
 
--- what is no report is printed as it is
-pub said-other : (is_json : Bool) (status : Status) (text : List ℕ) → status ≢ Done
-    → said_text is_json status text ≡ text
-said-other is_json Done text other = absurd (other refl)
-said-other is_json Usage text other = refl
-said-other is_json Refused text other = refl
-said-other is_json statuses.Disk text other = refl
-said-other is_json statuses.Fault text other = refl
-
 -- it is printed, and the run ends so
 pub printed-so : {F : Type 0} (state_of : F → FileState) (is_json : Bool) (before after : Option (List ℕ))
     (text : List ℕ) (said status : Status) → ExaminesIn state_of text said
@@ -173,27 +150,3 @@ pub unprinted-so : {F : Type 0} (state_of : F → FileState) (name text : List �
 unprinted-so state_of name text said failure is (inl memory) =
     inr (inr (inr (is.file, is.copy, is.layout, is.is_copy, inl memory)))
 unprinted-so state_of name text said failure is (inr output) = inl output
-
--- ---- the file
-
--- a copy was made, and then the layout was found
-pub laid-copy : (old new : FileState) (copy : MemDisk Global) (layout : Layout) → (Behaves old → new ≡ old)
-    → (Behaves old → old.size % 512 ≡ 0)
-    → (Behaves old → least_sectors ≤ old.size / 512) → (Behaves old → IsCopy old (disk_of copy))
-    → (Behaves new → layout ≡ layout_in new) → IsLaidCopy old copy layout
-laid-copy old new copy layout same whole enough copied found = λ behaves. (
-  whole behaves,
-  enough behaves,
-  copied behaves,
-  carried (λ (f : FileState). layout ≡ layout_in f) old new (same behaves) behaves found,
-)
-
--- a layout that is not found for the length of the file is not found for its length before
-pub no-layout : {T : Type 0} (old new : FileState) (result : Result T FileFault) (fault : FileFault)
-    → result ≡ Err fault → (Behaves old → new ≡ old)
-    → (IsErrOf result file_faults.Length → Behaves new → new.size % 512 ≢ 0) → fault ≡ file_faults.Length
-    → Behaves old → old.size % 512 ≢ 0
-no-layout old new result fault is same known_length named behaves =
-    let still = same behaves in
-    let known = known_length (rw is (ap Err named)) (subst Behaves (sym still) behaves) in
-    subst (λ (f : FileState). f.size % 512 ≢ 0) still known

@@ -4,6 +4,7 @@ use Rattle.macs_disk.specs.declared.file_fault.FileFault.{FileFault}
 use Rattle.macs_disk.specs.declared.file_fault.FileFault.TheVariants as file_faults
 use Rattle.macs_disk.specs.Files.{FileState}
 use Rattle.macs_journal.specs.declared.fault.JournalFault.TheVariants as journal
+use Rattle.macs_offline.specs.Copying.{CopyFails}
 use Rattle.macs_offline.specs.Openings.{OpeningFails}
 use Rattle.macs_cli.specs.Failing.{failure_of_file, failure_status}
 use Rattle.macs_cli.specs.declared.failure.DiskFault.{DiskFault}
@@ -72,6 +73,10 @@ of-opening file failure (inr refused) = inr (disk_faults.Journal refused.fault, 
 -- so it is, or its file is not opened to be read
 abbrev pub IsOfCopy : Failure → Type 0
 IsOfCopy failure = IsOfDisk failure ⊎ ((text : _) × (failure ≡ DiskFile text))
+
+pub of-copy : (file : FileState) (failure : Failure) → CopyFails file failure → IsOfDisk failure
+of-copy file failure (inl (fault, is, length)) = of-file fault failure is
+of-copy file failure (inr (is, few)) = inr (disk_faults.Journal journal.TooSmall, is)
 
 pub of-unread : (name : List ℕ) (failure : Failure) → IsNotRead name failure → IsOfCopy failure
 of-unread name failure (inl memory) = inl (inl memory)

@@ -4,12 +4,8 @@ pub mod Checked
 pub mod Commanded
 pub mod Examined
 pub mod Failures
-pub mod Faults
 pub mod HexDigits
-pub mod Holes
 pub mod Inspected
-pub mod Laid
-pub mod Looks
 pub mod NoneWaits
 pub mod OpenedFrames
 pub mod Planned

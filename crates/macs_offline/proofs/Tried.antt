@@ -1,6 +1,6 @@
 -- Commands that were given to an endpoint in memory, and how that fails.
-use Rattle.std.proofs.Common.{◌≡◌, ◌⊎◌, ◌∙◌, ◌+◌, ◌<◌, ◌≤◌, ◌++◌, inl, inr, ℕ, suc, Bool, if◌then◌else◌, is_some, List}
-use Rattle.std.proofs.Common.{[], ◌∷◌, length, take, drop, get_or, Option, Some, append_assoc, ap, subst, sym, arith}
+use Rattle.std.proofs.Common.{◌≡◌, ◌⊎◌, ◌∙◌, ◌+◌, ◌<◌, ◌≤◌, ◌/◌, ◌%◌, ◌++◌, inl, inr, ℕ, suc, Bool, if◌then◌else◌}
+use Rattle.std.proofs.Common.{is_some, List, [], ◌∷◌, length, take, drop, get_or, Option, Some, append_assoc, ap, subst, sym, arith}
 use Rattle.std.proofs.Common.{◌≢◌, ◌==◌, codes, false, true, refl, None, Result, Ok, Err, IfOk}
 use Rattle.std.specs.Borrow.{Bor}
 use Rattle.std.specs.Io.KnownBytes.{Appends}
@@ -12,16 +12,19 @@ use Rattle.std.proofs.lemmas.List.{append-nil, drop_all, take_more}
 use Rattle.macs_config.specs.declared.command.Command.{Command}
 use Rattle.macs_config.specs.declared.refusal.Refusal.{Refusal}
 use Rattle.macs_disk.specs.Disk.{Disk}
+use Rattle.macs_disk.specs.DiskCopies.{IsCopied, IsDiskCopy}
 use Rattle.macs_disk.specs.Files.{FileState}
+use Rattle.macs_disk.specs.MemDisks.{disk_of}
+use Rattle.macs_disk.specs.declared.disk_copy.DiskCopy.{DiskCopy}
 use Rattle.macs_endpoint.specs.Calls.{IsCall}
 use Rattle.macs_endpoint.specs.State.{Commands, Ran}
 use Rattle.macs_endpoint.specs.Value.{EndpointValue}
+use Rattle.macs_journal.specs.Areas.{least_sectors}
 use Rattle.macs_journal.specs.declared.fault.JournalFault.TheVariants as journal
 use Rattle.macs_offline.specs.KeyLists.{SaysSpent}
 use Rattle.macs_offline.specs.Applying.{Applies, SaidByFile, SaysCommands, answer_of, outcomes_status}
 use Rattle.macs_offline.specs.Checking.{CheckEnds, IsSaidOfFile}
 use Rattle.macs_offline.proofs.Checked.{EndsOfFile}
-use Rattle.macs_offline.specs.Copying.{CopyFails}
 use Rattle.macs_offline.specs.Trying.{EndsOn, EndsTrial, LookFails, TrialEnds, TrialFails, failure_in_memory}
 use Rattle.macs_offline.specs.Trying.{trial_line, trial_lines, trial_report}
 use Rattle.macs_cli.specs.declared.failure.DiskFault.{DiskFault}
@@ -31,7 +34,7 @@ use Rattle.macs_cli.specs.declared.failure.Failure.TheVariants.{Memory, OtherEnd
 use Rattle.macs_offline.proofs.Applied.{applies-more, parted, status-more}
 use Rattle.macs_cli.specs.declared.status.Status.{Status}
 use Rattle.macs_cli.specs.declared.status.Status.TheVariants.{Refused, Usage}
-use Rattle.macs_offline.proofs.Failures.{IsOfCopy, IsOfDisk, copy-no-output, copy-no-usage, of-file, of-unread}
+use Rattle.macs_offline.proofs.Failures.{IsOfCopy, IsOfDisk, copy-no-output, copy-no-usage, of-copy, of-unread}
 use Rattle.macs_cli.specs.Failing.{failure_status}
 
 -- ---- one command more
@@ -161,9 +164,10 @@ ends-on disk_of copy end commands failure (inr (old, opens, inr (own, inl memory
 ends-on disk_of copy end commands failure (inr (old, opens, inr (own, inr stops))) =
     inl (inl (in-memory stops.ends.0 failure stops.ends.5))
 
-copy-fails : (file : FileState) (failure : Failure) → CopyFails file failure → IsOfDisk failure
-copy-fails file failure (inl (fault, is, length)) = of-file fault failure is
-copy-fails file failure (inr (is, few)) = inr (disk.Journal journal.TooSmall, is)
+-- what is said of a copy and of its layout is said of the copy
+pub copy-in : (file : FileState) (copy : DiskCopy) → IsCopied file (Some copy)
+    → (file.size % 512 ≡ 0) × (least_sectors ≤ file.size / 512) × IsDiskCopy file (disk_of copy.disk)
+copy-in file copy (whole, enough, copied, laid) = (whole, enough, copied)
 
 pub of-trial : {F : Type 0} (state_of : F → FileState) (name : List ℕ) (end : Option (List ℕ))
     (commands : List Command) (failure : Failure)
@@ -171,7 +175,7 @@ pub of-trial : {F : Type 0} (state_of : F → FileState) (name : List ℕ) (end 
     → IsOfTrial failure
 of-trial state_of name end commands failure (inl unread) = inl (of-unread name failure unread)
 of-trial state_of name end commands failure (inr (inl (file, fails))) =
-    inl (inl (copy-fails (state_of file) failure fails))
+    inl (inl (of-copy (state_of file) failure fails))
 of-trial state_of name end commands failure (inr (inr (file, copy, is_copy, ends))) =
     ends-on _ copy end commands failure ends
 
@@ -180,7 +184,7 @@ pub of-look : {F : Type 0} (state_of : F → FileState) (failure : Failure) → 
     → IsOfDisk failure
 of-look state_of failure (inl (inl memory)) = inl memory
 of-look state_of failure (inl (inr unopened)) = inr (disk.File, unopened)
-of-look state_of failure (inr (inl (file, fails))) = copy-fails (state_of file) failure fails
+of-look state_of failure (inr (inl (file, fails))) = of-copy (state_of file) failure fails
 of-look state_of failure (inr (inr (file, copy, is_copy, inl (left, fault, refuses, is)))) =
     in-memory (disk.Journal fault) failure is
 of-look state_of failure (inr (inr (file, copy, is_copy, inr (old, opens, inl (other, named))))) =

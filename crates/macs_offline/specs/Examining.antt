@@ -8,13 +8,13 @@ use Rattle.std.specs.List.{concat}
 use Rattle.std.specs.declared.alloc.Global.{Global}
 use Rattle.hex.specs.Hex.{encode_lower}
 use Rattle.macs_config.specs.Config.{Config, this_edition}
+use Rattle.macs_disk.specs.DiskCopies.{IsDiskCopy}
 use Rattle.macs_disk.specs.Disk.{Disk, now}
 use Rattle.macs_disk.specs.Files.{Behaves, FileState}
-use Rattle.macs_disk.specs.Layouts.{layout_in}
+use Rattle.macs_disk.specs.Layouts.{block_of, layout_in}
 use Rattle.macs_disk.specs.MemDisks.{disk_of}
 use Rattle.macs_disk.specs.States.{Image}
 use Rattle.macs_disk.specs.declared.layout.Layout.{Layout}
-use Rattle.macs_disk.specs.declared.layout.Layout.TheVariants.{Packed, Spaced}
 use Rattle.macs_disk.specs.declared.memory.MemDisk.{MemDisk}
 use Rattle.macs_journal.specs.Areas.{least_sectors, slots}
 use Rattle.macs_journal.specs.Found.{Content, HasJournal, IsBadJournal}
@@ -28,7 +28,7 @@ use Rattle.macs_store.specs.Standing.{Standing}
 use Rattle.macs_cli.specs.Objects.{in_form}
 use Rattle.macs_texts.specs.Lines.{line}
 use Rattle.macs_texts.specs.Showing.{association_numbers}
-use Rattle.macs_offline.specs.Copying.{CopyFails, IsCopy}
+use Rattle.macs_offline.specs.Copying.{CopyFails}
 use Rattle.macs_cli.specs.Failing.{failure_of_journal}
 use Rattle.macs_offline.specs.FirstFault.{IsFirstFault}
 use Rattle.macs_cli.specs.Reasons.{IsNotRead}
@@ -61,11 +61,6 @@ rx_ceiling_line sci an (Some ceiling) =
     line (codes "ceiling rx " ++ (encode_lower sci ++ (codes " " ++ (decimal an ++ (codes " " ++ decimal ceiling)))))
 
 -- ---- the report
-
--- how many octets of the device each sector takes up
-abbrev pub block_of : Layout → ℕ
-block_of Packed = 512
-block_of Spaced = 4096
 
 -- the figures of a journal with this content
 abbrev pub figures_of : Content → Figures
@@ -146,7 +141,7 @@ IsNotExamined copy failure =
 abbrev pub IsLaidCopy : FileState → MemDisk Global → Layout → Type 0
 IsLaidCopy file copy layout =
     Behaves file → (file.size % 512 ≡ 0) × (least_sectors ≤ file.size / 512)
-    × IsCopy file (disk_of copy) × (layout ≡ layout_in file)
+    × IsDiskCopy file (disk_of copy) × (layout ≡ layout_in file)
 
 -- the report on the disk in a file, and the status of the run
 pub record ExaminesIn {F : Type 0} (state_of : F → FileState) (text : List ℕ) (status : Status) : Type 0 where

@@ -1,5 +1,4 @@
 pub mod Opened
-pub mod Contents
 pub mod CaptureReasons
 pub mod TomlPlaces
 pub mod Applying
@@ -7,7 +6,6 @@ pub mod Keys
 pub mod Inspecting
 pub mod Copying
 pub mod Trying
-pub mod FirstFault
 pub mod RecordLines
 pub mod Examining
 pub mod ShownKeys

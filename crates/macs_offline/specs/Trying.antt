@@ -6,6 +6,7 @@ use Rattle.std.specs.Io.KnownBytes.{Appends}
 use Rattle.std.specs.declared.alloc.Global.{Global}
 use Rattle.macs_config.specs.declared.command.Command.{Command}
 use Rattle.macs_config.specs.declared.refusal.Refusal.{Refusal}
+use Rattle.macs_disk.specs.DiskCopies.{IsDiskCopy}
 use Rattle.macs_disk.specs.Disk.{Disk}
 use Rattle.macs_disk.specs.Files.{Behaves, FileState}
 use Rattle.macs_disk.specs.MemDisks.{disk_of}
@@ -22,7 +23,7 @@ use Rattle.macs_texts.specs.Lines.{line}
 use Rattle.macs_texts.specs.Refusals.{refusal_name}
 use Rattle.macs_offline.specs.Applying.{Applies, SaidByFile, SaysCommands, commit_fault, is_for, outcomes_status}
 use Rattle.macs_offline.specs.Applying.{own_sci}
-use Rattle.macs_offline.specs.Copying.{CopyFails, IsCopy}
+use Rattle.macs_offline.specs.Copying.{CopyFails}
 use Rattle.macs_cli.specs.FileModes.{mode_warning}
 use Rattle.macs_cli.specs.Reasons.{IsNotRead}
 use Rattle.macs_offline.specs.KeyLists.{SaysSpent}
@@ -112,7 +113,7 @@ EndsOn {D} disk_of copy end commands failure =
 abbrev pub IsCopyIn : {F : Type 0} → (F → FileState) → F → MemDisk Global → Type 0
 IsCopyIn state_of file copy =
     Behaves (state_of file) → ((state_of file).size % 512 ≡ 0) × (least_sectors ≤ (state_of file).size / 512)
-    × IsCopy (state_of file) (disk_of copy)
+    × IsDiskCopy (state_of file) (disk_of copy)
 
 -- the commands are given to the endpoint on a copy of the disk in a file
 pub record TriesIn {F : Type 0} (state_of : F → FileState) (end : Option (List ℕ)) (commands : List Command)

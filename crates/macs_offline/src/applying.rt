@@ -1,85 +1,24 @@
 //! `apply`: the commands of a file, one after another.
 
-ghost use Rattle.std.specs.Prelude.{◌≡◌, ◌≢◌, ◌+◌, ◌⊎◌, ℕ, List, [], Option, is_some, true};
-ghost use Rattle.std.specs.Prelude.{if◌then◌else◌};
-ghost use Rattle.std.specs.Prelude.{IfErr, IfOk, OnOk, Ok, Err};
+ghost use Rattle.std.specs.Prelude.{◌≡◌, ◌≢◌, [], Option, is_some, true, if◌then◌else◌};
+ghost use Rattle.std.specs.Prelude.{IfErr, IfOk, Err};
 ghost use Rattle.std.specs.Io.KnownBytes.{Appends};
-ghost use Rattle.toml.specs.Data.{Members};
-ghost use Rattle.toml.specs.Parse.{parse_document};
-ghost use Rattle.toml.specs.View.{table_view};
-ghost use Rattle.macs_config.specs.declared.command.Command.{Command};
 ghost use Rattle.macs_config.specs.declared.refusal.Refusal.{Refusal};
-ghost use Rattle.macs_commands.specs.Ends.{end_commands, end_in};
 ghost use Rattle.macs_endpoint.specs.Calls.{IsCall};
 ghost use Rattle.macs_endpoint.specs.State.{Commands, Ran};
 ghost use Rattle.macs_endpoint.specs.declared.fault.CommandFault.{CommandFault};
-ghost use Rattle.macs_offline.specs.Applying.{AppliesAll, AppliesSome, EndsRun, SaysCommands};
+ghost use Rattle.macs_offline.specs.Applying.{AppliesAll, AppliesSome, EndsRun};
 ghost use Rattle.macs_offline.specs.Applying.{IsNotBusyCommand, answer_of, commit_fault, is_for};
 ghost use Rattle.macs_offline.specs.Applying.{outcome_line, own_sci};
 
 use itoa::Buffer;
 use macs_cli::{DiskFault, Failure, Line, Status, Stream, print_octets};
-use macs_commands::secrets::SecretTable;
-use macs_commands::{CommandFile, command_file};
 use macs_config::{Command, Refusal};
 use macs_disk::SectorDisk;
 use macs_endpoint::{CommandFault, Endpoint};
 use macs_fields::Sci;
 use macs_journal::JournalFault;
 use macs_texts::refusal_name;
-use std::alloc::Global;
-use toml::Table;
-
-/// The longest command file, in octets.
-pub const MAX_FILE: usize = 1_048_576;
-
-/// How many octets of a file are read: one more than the limit, so that a longer file is detected.
-pub const MAX_READ: usize = MAX_FILE + 1;
-
-/// The table of a TOML text.
-fn table_of(alloc: Global, text: &str) -> Result<Table, Failure>
-    ensures parsed { IfOk result (λ table. parse_document text.now ≡ Some (table_view table)) }
-    ensures fault { IfErr result (λ failure. (failure ≡ Failure.Memory)
-        ⊎ ((failure ≡ Failure.Commands) × (parse_document text.now ≡ None))) }
-{
-    match toml::table_from_str(alloc, text) {
-        Ok(table) => Ok(table),
-        Err(error) if error.is_memory() => Err(Failure::Memory),
-        Err(_) => Err(Failure::Commands),
-    }
-}
-
-/// The contents of a table: its commands, and the end that they are for, if it names one.
-fn commands_told(alloc: Global, table: &Table) -> Result<CommandFile<Global>, Failure>
-    ensures named { IfOk result (λ told. end_in (table_view table.now) ≡ Ok told.end) }
-    ensures said { IfOk result
-        (λ told. end_commands (table_view table.now) ≡ Ok told.commands.items) }
-    ensures fault { IfErr result (λ failure. (failure ≡ Failure.Memory)
-        ⊎ ((failure ≡ Failure.Commands) × ((end : Option (List ℕ)) (commands : List Command)
-        → end_in (table_view table.now) ≡ Ok end
-        → ¬ (end_commands (table_view table.now) ≡ Ok commands)))) }
-{
-    let told = command_file(alloc, table)?;
-    Ok(told)
-}
-
-/// Parses a command file. Fails with `Memory`, or with `Commands` if the octets are no command
-/// file: too many, not UTF-8, not TOML, or with a fault in the commands.
-pub fn commands_in(alloc: Global, octets: &[u8]) -> Result<CommandFile<Global>, Failure>
-    ensures said { IfOk result (λ told. SaysCommands octets.now told.end told.commands.items) }
-    ensures fault { IfErr result (λ failure. (failure ≡ Failure.Memory)
-        ⊎ ((failure ≡ Failure.Commands) × ((end : Option (List ℕ)) (commands : List Command)
-        → ¬ SaysCommands octets.now end commands))) }
-{
-    if octets.len() > MAX_FILE {
-        return Err(Failure::Commands);
-    }
-    let Ok(text) = str::from_utf8(octets) else {
-        return Err(Failure::Commands);
-    };
-    let table = SecretTable(table_of(alloc, text)?);
-    commands_told(alloc, &table.0)
-}
 
 /// Whether a command file is for the end with this SCI: it names that end, or none.
 fn is_for(end: Option<Sci>, sci: Sci) -> bool

@@ -1,15 +1,12 @@
 //! `examine`: a report on the journal of the disk in a file, which is only read.
 
-ghost use Rattle.std.specs.Prelude.{◌≡◌, ◌≢◌, ◌⊎◌, ◌≤◌, ◌%◌, true, Ok, IfErr, IfOk, IsErrOf};
+ghost use Rattle.std.specs.Prelude.{◌≡◌, ◌≢◌, ◌⊎◌, ◌≤◌, true, Ok, IfErr, IfOk};
 ghost use Rattle.std.specs.Prelude.{List, string_bytes};
 ghost use Rattle.std.specs.Io.KnownBytes.{Appends};
 ghost use Rattle.std.specs.declared.alloc.Global.{Global};
 ghost use Rattle.macs_config.specs.Config.{this_edition};
 ghost use Rattle.macs_disk.specs.Disk.{now};
-ghost use Rattle.macs_disk.specs.Files.{Behaves};
-ghost use Rattle.macs_disk.specs.Layouts.{layout_in};
 ghost use Rattle.macs_disk.specs.MemDisks.{disk_of};
-ghost use Rattle.macs_disk.specs.declared.file_fault.FileFault.{FileFault};
 ghost use Rattle.macs_disk.specs.declared.memory.MemDisk.{MemDisk};
 ghost use Rattle.macs_journal.specs.Areas.{least_sectors};
 ghost use Rattle.macs_journal.specs.Found.{Content, HasJournal, IsBadJournal};
@@ -27,17 +24,16 @@ ghost use Rattle.macs_offline.specs.Examining.{fault_line, figures_of, said_text
 ghost use Rattle.macs_offline.specs.Trying.{failure_in_memory};
 ghost use Rattle.macs_cli.specs.declared.failure.DiskFault.TheVariants.{Journal};
 
-use crate::disk_copy::{copy_of, find_layout, measure};
+use crate::disk_copy::copy_of;
 use crate::examined_text::{Figures, examined_text, fault_line};
 use crate::files::open_shared;
-use crate::first_fault::fault_of;
 use crate::record_lines::records_text;
 use crate::trial::failure_in_memory;
 use macs_cli::{
     CaptureFile, DiskFault, Failure, Status, Stream, failure_at_disk, print_last, print_report,
 };
-use macs_disk::{FileFault, Layout, MemDisk};
-use macs_journal::{JournalFault, RecoverRefused, Room, new_room, recover_into};
+use macs_disk::{Layout, MemDisk};
+use macs_journal::{JournalFault, RecoverRefused, Room, first_fault, new_room, recover_into};
 use macs_store::{OpenRefused, Store};
 use std::alloc::{AllocError, Global};
 use std::rt::Files;
@@ -75,7 +71,7 @@ fn find_with(
         → IsNoJournal disk_of copy refused.fault) }
     ensures left { IfErr result (λ refused. refused.fault ≡ JournalFault.BadJournal
         → (least_sectors ≤ (disk_of refused.disk).sectors)
-        × ((now (disk_of refused.disk)).durable ≡ (now (disk_of copy)).seen)) }
+        × ((now (disk_of refused.disk)).seen ≡ (now (disk_of copy)).seen)) }
 {
     let found = recover_into(copy, room)?;
     let lines = records_text(alloc, &room[..found.used]);
@@ -106,7 +102,7 @@ fn find(alloc: Global, copy: MemDisk) -> Result<Examined, RecoverRefused<MemDisk
         → IsNoJournal disk_of copy refused.fault) }
     ensures left { IfErr result (λ refused. refused.fault ≡ JournalFault.BadJournal
         → (least_sectors ≤ (disk_of refused.disk).sectors)
-        × ((now (disk_of refused.disk)).durable ≡ (now (disk_of copy)).seen)) }
+        × ((now (disk_of refused.disk)).seen ≡ (now (disk_of copy)).seen)) }
 {
     find_with(alloc, copy, &mut new_room())
 }
@@ -143,14 +139,17 @@ fn report_journal(
 }
 
 /// The report on a disk whose journal is bad: its first fault.
-fn report_fault(alloc: Global, disk: &MemDisk) -> Result<Said, Failure>
-    requires room { least_sectors ≤ (disk_of disk.now).sectors }
-    requires bad { IsBadJournal (now (disk_of disk.now)).durable }
+fn report_fault(alloc: Global, disk: &mut MemDisk) -> Result<Said, Failure>
+    requires room { least_sectors ≤ (disk_of disk.old).sectors }
+    requires bad { IsBadJournal (now (disk_of disk.old)).seen }
     ensures reported { IfOk result
-        (λ said. SaysFault (now (disk_of disk.now)).durable (string_bytes said.text) said.status) }
+        (λ said. SaysFault (now (disk_of disk.old)).seen (string_bytes said.text) said.status) }
     ensures ended { IfErr result (λ failure. failure ≡ Failure.Memory) }
 {
-    match fault_of(disk) {
+    let Ok(fault) = first_fault(disk) else {
+        return Err(Failure::Memory);
+    };
+    match fault {
         Some(at) => {
             let text = fault_line(alloc, at)?;
             Ok(Said {
@@ -162,22 +161,20 @@ fn report_fault(alloc: Global, disk: &MemDisk) -> Result<Said, Failure>
     }
 }
 
-/// The report on a disk on which no journal was found: the first fault of a bad one.
+/// The report on a disk on which no journal was found, for this fault: the first fault of a bad one.
 #[inline(never)]
-fn report_refused(alloc: Global, refused: &RecoverRefused<MemDisk>) -> Result<Said, Failure>
-    requires room { refused.now.fault ≡ JournalFault.BadJournal
-        → least_sectors ≤ (disk_of refused.now.disk).sectors }
-    requires bad { refused.now.fault ≡ JournalFault.BadJournal
-        → IsBadJournal (now (disk_of refused.now.disk)).durable }
-    ensures reported { IfOk result (λ said. (refused.now.fault ≡ JournalFault.BadJournal)
-        × SaysFault (now (disk_of refused.now.disk)).durable (string_bytes said.text) said.status) }
+fn report_refused(alloc: Global, fault: JournalFault, disk: &mut MemDisk) -> Result<Said, Failure>
+    requires room { fault ≡ JournalFault.BadJournal → least_sectors ≤ (disk_of disk.old).sectors }
+    requires bad { fault ≡ JournalFault.BadJournal → IsBadJournal (now (disk_of disk.old)).seen }
+    ensures reported { IfOk result (λ said. (fault ≡ JournalFault.BadJournal)
+        × SaysFault (now (disk_of disk.old)).seen (string_bytes said.text) said.status) }
     ensures ended { IfErr result (λ failure. (failure ≡ Failure.Memory)
-        ⊎ ((refused.now.fault ≢ JournalFault.BadJournal)
-        × (failure ≡ failure_in_memory (Journal refused.now.fault)))) }
+        ⊎ ((fault ≢ JournalFault.BadJournal)
+        × (failure ≡ failure_in_memory (Journal fault)))) }
 {
-    match refused.fault {
-        JournalFault::BadJournal => report_fault(alloc, &refused.disk),
-        _ => Err(failure_in_memory(DiskFault::Journal(refused.fault))),
+    match fault {
+        JournalFault::BadJournal => report_fault(alloc, disk),
+        _ => Err(failure_in_memory(DiskFault::Journal(fault))),
     }
 }
 
@@ -197,22 +194,8 @@ fn examine_copy(alloc: Global, layout: Layout, copy: MemDisk) -> Result<Said, Fa
             found.lines,
             Store::open(found.disk),
         ),
-        Err(refused) => report_refused(alloc, &refused),
+        Err(mut refused) => report_refused(alloc, refused.fault, &mut refused.disk),
     }
-}
-
-/// The layout of the disk in a file of whole sectors.
-fn layout_of<F: CaptureFile>(file: &mut F) -> Result<Layout, FileFault>
-    ensures found { Behaves (F.file file.old)
-        → IfOk result (λ layout. layout ≡ layout_in (F.file file.old)) }
-    ensures length { IsErrOf result FileFault.Length → Behaves (F.file file.old)
-        → (F.file file.old).size % 512 ≢ 0 }
-{
-    let sectors = measure(file)?;
-    let Ok(layout) = find_layout(file, sectors) else {
-        return Err(FileFault::Device);
-    };
-    Ok(layout)
 }
 
 /// The report on the disk in a file, which is opened only for reading. Fails with `DiskFile` and
@@ -228,8 +211,7 @@ where
     match open_shared(rt, path) {
         Ok(mut file) => {
             let copy = copy_of(alloc, &mut file)?;
-            let layout = layout_of(&mut file)?;
-            examine_copy(alloc, layout, copy)
+            examine_copy(alloc, copy.layout, copy.disk)
         }
         Err(error) => Err(failure_at_disk(alloc, path, error)),
     }

@@ -8,7 +8,7 @@ ghost use Rattle.macs_record.specs.declared.record.Record.{Record};
 ghost use Rattle.macs_store.specs.Value.{standing_in};
 ghost use Rattle.macs_texts.specs.Lines.{line};
 ghost use Rattle.macs_texts.specs.Showing.{association_numbers};
-ghost use Rattle.macs_offline.specs.Examining.{block_of, channel_ceilings_text, end_text};
+ghost use Rattle.macs_offline.specs.Examining.{channel_ceilings_text, end_text};
 ghost use Rattle.macs_offline.specs.Examining.{examined_text, figures_text};
 ghost use Rattle.macs_offline.specs.Examining.{fault_line, number_line, part_line, rx_ceiling_line};
 ghost use Rattle.macs_offline.specs.Examining.{rx_ceiling_text};
@@ -18,13 +18,11 @@ ghost use Rattle.macs_offline.specs.RecordLines.{records_text};
 use macs_config::Config;
 use macs_disk::{Layout, SectorDisk};
 use macs_frame::{An, Sci};
+use macs_journal::SLOTS;
 use macs_record::{Ceiling, Format};
 use macs_store::Store;
 use macs_texts::{ended, joined};
 use std::alloc::{AllocError, Global};
-
-/// How many slots an area has.
-const SLOTS: u64 = 256;
 
 /// How many keys may be spent in each direction.
 const SPENT: u64 = 512;
@@ -46,16 +44,6 @@ fn format_number(format: Format) -> u64
     match format {
         Format::One => 1,
         Format::Two => 2,
-    }
-}
-
-/// How many octets of the device each sector takes up.
-fn block_of(layout: Layout) -> u64
-    ensures { result ≡ block_of layout }
-{
-    match layout {
-        Layout::Packed => 512,
-        Layout::Spaced => 4_096,
     }
 }
 
@@ -160,7 +148,7 @@ fn figures_text(alloc: Global, layout: Layout, figures: Figures) -> Result<Strin
         part_line(alloc, "slots used", figures.used, SLOTS),
     );
     let text = joined(number_line(alloc, "area", figures.area), text);
-    let text = joined(number_line(alloc, "block", block_of(layout)), text);
+    let text = joined(number_line(alloc, "block", layout.block()), text);
     joined(
         number_line(alloc, "format", format_number(figures.format)),
         text,

@@ -1,25 +1,21 @@
 //! The files named on the command line.
 
-ghost use Rattle.std.specs.Prelude.{◌≡◌, ◌≢◌, ◌⊎◌, ◌/◌, false, true, ℕ, List, [], Some, IfErr};
+ghost use Rattle.std.specs.Prelude.{◌≡◌, ◌≢◌, ◌⊎◌, ◌/◌, false, true, [], Some, IfErr};
 ghost use Rattle.std.specs.Prelude.{IfOk, IfSome, OnErr, OnOk};
 ghost use Rattle.std.specs.Io.Buffered.{reader_buffer, reader_capacity, reader_inner};
 ghost use Rattle.std.specs.Io.Buffered.{writer_buffer, writer_inner};
 ghost use Rattle.macs_disk.specs.Files.{Behaves, file_claimed, file_cut};
 ghost use Rattle.std.specs.IoError.{error_kind};
 ghost use Rattle.std.specs.declared.io.ErrorKind.TheVariants.{OutOfMemory};
-ghost use Rattle.macs_offline.specs.Applying.{SaidByFile, SaysCommands};
 ghost use Rattle.macs_disk.specs.declared.file_fault.FileFault.{FileFault};
-ghost use Rattle.macs_offline.specs.Contents.{HoldsEndpoint};
+ghost use Rattle.macs_journal.specs.Contents.{HoldsEndpoint};
 ghost use Rattle.macs_offline.specs.Openings.{IsDiskIn};
 ghost use Rattle.macs_cli.specs.Failing.{failure_of_file};
 ghost use Rattle.macs_cli.specs.declared.failure.DiskFault.{DiskFault};
 
-use crate::applying::{MAX_READ, commands_in};
-use crate::contents::holds_endpoint;
 use macs_cli::{CaptureFile, DiskFault, Failure, WholeWrites};
-use macs_commands::CommandFile;
-use macs_commands::secrets::SecretOctets;
 use macs_disk::{DiskFile, FileDisk};
+use macs_journal::holds_endpoint;
 use macs_pcap::{ReaderSource, Sink, Source, WriterSink};
 use std::alloc::Global;
 use std::fs::{OpenFile, OpenOptions};
@@ -103,43 +99,6 @@ where
     }
     let disk = FileDisk::open(rt, alloc, path)?;
     Ok(disk)
-}
-
-/// The commands of an open command file, of which no more is read than the limit needs.
-fn read_commands<R: Read>(alloc: Global, file: &mut R) -> Result<CommandFile<Global>, Failure>
-    ensures said { IfOk result (λ told. IfSome (R.remaining file.old)
-        (λ octets. SaysCommands octets told.end told.commands.items)) }
-    ensures spelled { IfOk result
-        (λ told. (octets : List ℕ) × SaysCommands octets told.end told.commands.items) }
-    ensures failed { IfErr result
-        (λ failure. (failure ≡ Failure.Memory) ⊎ (failure ≡ Failure.Commands)) }
-{
-    let mut octets = SecretOctets(Vec::with_capacity(alloc, MAX_READ)?);
-    match file.take(MAX_READ as u64).read_to_end(&mut octets.0) {
-        Ok(_) => commands_in(alloc, octets.0.as_slice()),
-        Err(error) => Err(failure_of(error, Failure::Commands)),
-    }
-}
-
-/// The commands of a command file. Fails with `Memory` if the system or the program runs out of
-/// memory, and with `Commands` if the file cannot be opened or read, or has no valid commands.
-pub fn commands_of_file<T: Files>(
-    rt: &T,
-    alloc: Global,
-    path: &str,
-) -> Result<CommandFile<Global>, Failure>
-    // A file was opened, and these are its contents.
-    ensures said { IfOk result
-        (λ told. SaidByFile T.File.remaining told.end told.commands.items) }
-    ensures spelled { IfOk result
-        (λ told. (octets : List ℕ) × SaysCommands octets told.end told.commands.items) }
-    ensures failed { IfErr result
-        (λ failure. (failure ≡ Failure.Memory) ⊎ (failure ≡ Failure.Commands)) }
-{
-    match fs::open(rt, path) {
-        Ok(mut file) => read_commands(alloc, &mut file),
-        Err(error) => Err(failure_of(error, Failure::Commands)),
-    }
 }
 
 /// A buffered reader of a capture. Fails with `Memory`.

@@ -4,12 +4,11 @@
 
 mod applying;
 pub mod check;
-mod contents;
+mod command_file;
 mod disk_copy;
 pub mod examine;
 mod examined_text;
 mod files;
-mod first_fault;
 mod hex_text;
 pub mod inspect;
 pub mod key;
@@ -23,10 +22,9 @@ mod toml_place;
 mod trial;
 
 pub use applying::{apply_commands, is_own, outcome_line, status_after};
-pub use contents::{Contents, contents_of};
+pub use command_file::{commands_of_file, commands_told};
 pub use files::{
-    CaptureSink, CaptureSource, commands_of_file, failure_of, is_printed_to, make_capture,
-    open_capture, open_disk,
+    CaptureSink, CaptureSource, failure_of, is_printed_to, make_capture, open_capture, open_disk,
 };
 pub use key_list::{KeyFault, KeyList, note_keys};
 pub use opened::{Opened, answer_of};

@@ -13,10 +13,11 @@ ghost use Rattle.macs_offline.specs.Plans.{end_of, extra_text, link_refusal, nam
 ghost use Rattle.macs_offline.specs.Plans.{name_word, plan_fault_text, stage_of, value_text};
 ghost use Rattle.macs_cli.specs.Reasons.{Complains, IsLinkUnread};
 
-use crate::applying::{MAX_FILE, MAX_READ};
-use crate::check::failure_saying;
+use crate::command_file::{MAX_FILE, MAX_READ};
 use crate::toml_place::failure_of_toml;
-use macs_cli::{Failure, LinkRefusal, PlanEnd, PlanStage, Status, Stream, failure_at, print};
+use macs_cli::{
+    Failure, LinkRefusal, PlanEnd, PlanStage, Status, Stream, failure_at, failure_saying, print,
+};
 use macs_commands::links::{End, Place, PlanFault, Stage, ValueName};
 use macs_commands::secrets::{SecretOctets, SecretTable, SecretText};
 use std::alloc::{AllocError, Global};

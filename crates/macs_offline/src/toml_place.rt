@@ -6,8 +6,7 @@ ghost use Rattle.toml.specs.Errors.{IsMemory, IsWithin};
 ghost use Rattle.macs_cli.specs.Reasons.{Complains};
 ghost use Rattle.macs_offline.specs.TomlPlaces.{not_toml_text, place_after, place_in, place_step};
 
-use crate::check::failure_saying;
-use macs_cli::Failure;
+use macs_cli::{Failure, failure_saying};
 use std::alloc::{AllocError, Global};
 
 /// A place in a text. Both numbers count from 1, columns in characters.

@@ -146,7 +146,7 @@ fn try_file<F: CaptureFile>(
     ensures ended { IfErr result (FailsIn F.file end commands.now) }
 {
     let copy = copy_of(alloc, file)?;
-    try_on(alloc, copy, end, commands)
+    try_on(alloc, copy.disk, end, commands)
 }
 
 /// How the endpoint on the disk in a file, which is opened only for reading, would answer these

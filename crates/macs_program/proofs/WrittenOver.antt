@@ -1,10 +1,10 @@
 -- What is in a file is one thing, and only what may be written over is.
 use Rattle.std.proofs.Common.{◌≡◌, ℕ, true, false, None, refl}
 use Rattle.macs_disk.specs.Files.{FileState}
-use Rattle.macs_offline.specs.Contents.{ContentsAre, HasOpenGate, IsBlankFile}
+use Rattle.macs_journal.specs.Contents.{ContentsAre, HasOpenGate, IsBlankFile}
 use Rattle.macs_program.specs.NewDisks.{Permits}
-use Rattle.macs_offline.specs.declared.contents.Contents.{Contents}
-use Rattle.macs_offline.specs.declared.contents.Contents.TheVariants as contents
+use Rattle.macs_journal.specs.declared.contents.Contents.{Contents}
+use Rattle.macs_journal.specs.declared.contents.Contents.TheVariants as contents
 
 pub one-stands : (file : FileState) (sectors : ℕ) (a b : Contents) → ContentsAre file sectors a
     → ContentsAre file sectors b → a ≡ b

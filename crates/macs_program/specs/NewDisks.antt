@@ -11,11 +11,11 @@ use Rattle.macs_disk.specs.declared.file_fault.FileFault.{FileFault}
 use Rattle.macs_endpoint.specs.Formatting.{IsFormat}
 use Rattle.macs_journal.specs.declared.fault.JournalFault.{JournalFault}
 use Rattle.macs_journal.specs.declared.fault.JournalFault.TheVariants as journal
-use Rattle.macs_offline.specs.Contents.{ContentsAre}
+use Rattle.macs_journal.specs.Contents.{ContentsAre}
 use Rattle.macs_cli.specs.Failing.{failure_of_file, failure_of_journal}
 use Rattle.macs_texts.specs.Lines.{line}
-use Rattle.macs_offline.specs.declared.contents.Contents.{Contents}
-use Rattle.macs_offline.specs.declared.contents.Contents.TheVariants as contents
+use Rattle.macs_journal.specs.declared.contents.Contents.{Contents}
+use Rattle.macs_journal.specs.declared.contents.Contents.TheVariants as contents
 use Rattle.macs_cli.specs.declared.failure.DiskFault.{DiskFault}
 use Rattle.macs_cli.specs.declared.failure.DiskFault.TheVariants as disk
 use Rattle.macs_cli.specs.declared.failure.Failure.{Failure}

@@ -2,9 +2,9 @@
 
 ghost use Rattle.std.specs.Prelude.{◌≡◌, ℕ, true, false, None};
 ghost use Rattle.macs_disk.specs.Files.{FileState};
-ghost use Rattle.macs_offline.specs.Contents.{ContentsAre, HasOpenGate, IsBlankFile};
+ghost use Rattle.macs_journal.specs.Contents.{ContentsAre, HasOpenGate, IsBlankFile};
 ghost use Rattle.macs_program.specs.NewDisks.{Permits};
-ghost use Rattle.macs_offline.specs.declared.contents.Contents.{Contents};
+ghost use Rattle.macs_journal.specs.declared.contents.Contents.{Contents};
 
 /// A file becomes that of a new endpoint only if it holds nothing, or if it may be overwritten and
 /// holds no endpoint in use.

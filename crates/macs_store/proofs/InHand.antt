@@ -22,7 +22,7 @@ use Rattle.macs_store.specs.Snapshot.{snapshot}
 use Rattle.macs_store.specs.Standing.{Standing}
 use Rattle.macs_store.specs.Stepping.{HasInHand, StartsRecord}
 use Rattle.macs_store.specs.Value.{IsIdle, IsStored, StoreValue, generation, snapshot_length, standing_in, used_slots}
-use Rattle.macs_store.specs.declared.change.Change.TheVariants.{Appending, Renewing}
+use Rattle.macs_store.specs.Kept.{Appending, Renewing}
 use Rattle.macs_store.proofs.Compacting.{meaning-compacted}
 use Rattle.macs_store.proofs.Keeping.{held-within, idle-holds, standing-with}
 

@@ -36,7 +36,7 @@ use Rattle.macs_store.specs.Standing.{Standing}
 use Rattle.macs_store.specs.Table.{standing_of}
 use Rattle.macs_store.specs.Value.{IsIdle, IsStored, LeadsTo, StoreValue, device_in, disk_in, standing_in}
 use Rattle.macs_store.specs.Value.{standing_next}
-use Rattle.macs_store.specs.declared.change.Change.{Change}
+use Rattle.macs_store.specs.Kept.{Change}
 use Rattle.macs_store.proofs.Compacting.{meaning-compacted}
 
 -- ---- over plain values

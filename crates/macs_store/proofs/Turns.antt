@@ -1,7 +1,6 @@
 -- One step of a store, from what its journal answers.
-use Rattle.std.proofs.Common.{◌≡◌, ◌≢◌, ◌≤◌, ◌+◌, ◌∙◌, ℕ, true, false, if◌then◌else◌, Bool, List, [], length, Option}
-use Rattle.std.proofs.Common.{Some, None, Result, Ok, Err, inl, inr, refl, ap, sym, subst, arith}
-use Rattle.std.specs.Option.{IsSome}
+use Rattle.std.proofs.Common.{◌≡◌, ◌≢◌, ◌≤◌, ◌+◌, ◌∙◌, ℕ, true, false, if◌then◌else◌, Bool, List, [], length}
+use Rattle.std.proofs.Common.{Some, Result, Ok, Err, inl, inr, refl, ap, sym, subst, arith}
 use Rattle.macs_config.specs.Config.{this_edition}
 use Rattle.macs_disk.specs.Disk.{Disk, IsDeviceCall, IsHonest}
 use Rattle.macs_disk.specs.Runs.{Leaves}
@@ -32,8 +31,8 @@ use Rattle.macs_store.specs.Table.{StandingValue, standing_of}
 use Rattle.macs_store.specs.Value.{FitsChange, IsIdle, IsStored, StoreValue, calls_left, calls_with, disk_in}
 use Rattle.macs_store.specs.Value.{generation_with, is_stopped, slots_with, snapshot_length, standing_in, standing_next}
 use Rattle.macs_store.specs.Value.{standing_then, standing_with}
-use Rattle.macs_store.specs.declared.change.Change.{Change}
-use Rattle.macs_store.specs.declared.change.Change.TheVariants.{Appending, Empty, Renewing}
+use Rattle.macs_store.specs.Kept.{Change}
+use Rattle.macs_store.specs.Kept.{Appending, Empty, Renewing}
 use Rattle.macs_store.proofs.InHand.{task-appends}
 use Rattle.macs_store.proofs.Keeping.{either-image, held-within, in_hand-image, standing-with, stored-image}
 
@@ -433,17 +432,6 @@ module _ {D : Type 0} (disk_of : D → Disk) (s : StoreValue D) (runs : is_stopp
       }
 
 -- ---- by the invariant of a store
-
-not-none : (found : Option Standing) → IsSome found → found ≡ None → ⊥
-not-none None some none = cc
-not-none (Some next) some none = cc
-
--- what follows from the standing, once this was looked for
-pub must-follow : (fits : Bool) (found : Option Standing) (next : Standing) → IsSome found
-    → (fits ≡ true → found ≡ Some next) → (fits ≡ false → found ≡ None)
-    → found ≡ Some next
-must-follow true found next some follows refused = follows refl
-must-follow false found next some follows refused = absurd (not-none found some (refused refl))
 
 appending-is : (hand : Change) → IsAppending hand → (r : Record) × (hand ≡ Appending r)
 appending-is Empty is = absurd is

@@ -21,8 +21,8 @@ use Rattle.macs_store.specs.Standing.{Standing, accept}
 use Rattle.macs_store.specs.Value.{IsIdle, IsStored, StoreValue, calls_left, device_in, disk_in, generation}
 use Rattle.macs_store.specs.Value.{generation_then, is_stopped, slots_then, standing_in, standing_then, used_slots}
 use Rattle.macs_store.specs.declared.fault.CommitFault.{CommitFault}
-use Rattle.macs_store.specs.declared.change.Change.{Change}
-use Rattle.macs_store.specs.declared.change.Change.TheVariants.{Appending, Renewing}
+use Rattle.macs_store.specs.Kept.{Change}
+use Rattle.macs_store.specs.Kept.{Appending, Renewing}
 use Rattle.macs_store.specs.declared.fault.CommitFault.TheVariants as commit
 
 -- ---- work is started

@@ -1,22 +1,17 @@
 -- A store in memory, the work that it has under way, and what is on its disk.
-use Rattle.std.specs.Prelude.{◌≡◌, ◌+◌, ℕ, Bool, true, false, Option, Some, None, length, IsSome}
+use Rattle.std.specs.Prelude.{◌≡◌, ◌+◌, ℕ, Bool, false, Option, Some, length, IsSome}
 use Rattle.macs_config.specs.Config.{this_edition}
-use Rattle.macs_config.specs.declared.command.Command.{Command}
 use Rattle.macs_disk.specs.Disk as disk
 use Rattle.macs_journal.specs.Found.{Content, content_with_record}
 use Rattle.macs_journal.specs.Stepping.{RenewsWith, IsAppendHand}
 use Rattle.macs_journal.specs.Value.{HoldsWith, JournalValue, left_of}
 use Rattle.macs_journal.specs.Value as journal
-use Rattle.macs_record.specs.Commands.{record_of}
 use Rattle.macs_record.specs.declared.format.Format.TheVariants.{Two}
-use Rattle.macs_record.specs.declared.record.Record.{Record}
-use Rattle.macs_record.specs.declared.record.Record.TheVariants.{RxCeiling, TxCeiling}
+use Rattle.macs_store.specs.Kept.{Appending, Change, Empty, Renewing}
 use Rattle.macs_store.specs.Replay.{meaning_of, standing_after_record}
 use Rattle.macs_store.specs.Snapshot.{snapshot}
 use Rattle.macs_store.specs.Standing.{Standing}
 use Rattle.macs_store.specs.Table.{StandingValue, standing_of}
-use Rattle.macs_store.specs.declared.change.Change.{Change}
-use Rattle.macs_store.specs.declared.change.Change.TheVariants.{Appending, Empty, Renewing}
 
 -- what a store keeps
 pub record StoreValue (D : Type 0) : Type 0 where
@@ -106,24 +101,6 @@ FitsChange j standing (Renewing r) =
     × RenewsWith j.place j.hand (snapshot standing)
 FitsChange j standing (Appending r) = (journal.is_stopped j ≡ false) × IsSome (standing_after_record standing r)
     × IsAppendHand j.hand
-
--- a record is that of a raised ceiling
-abbrev pub is_ceiling : Record → Bool
-is_ceiling (TxCeiling an ceiling) = true
-is_ceiling (RxCeiling sci an ceiling) = true
-is_ceiling r = false
-
--- what was checked along with a record: nothing for a raised ceiling, else the command whose record it is
-abbrev pub IsOfRecord : Record → Option Command → Type 0
-IsOfRecord r None = is_ceiling r ≡ true
-IsOfRecord r (Some command) = record_of command ≡ Some r
-
--- what was checked along with the work under way belongs to the record under way, and none of it is left if no work is
--- under way
-abbrev pub IsOfChange : Change → Option Command → Type 0
-IsOfChange Empty checked = checked ≡ None
-IsOfChange (Renewing r) checked = IsOfRecord r checked
-IsOfChange (Appending r) checked = IsOfRecord r checked
 
 -- ---- on its disk
 

@@ -4,7 +4,6 @@
 
 mod ahead;
 mod ceiling_table;
-mod change;
 mod fault;
 pub mod laws;
 mod meaning;
@@ -13,6 +12,7 @@ mod snapshot;
 mod standing;
 mod stepping;
 mod store;
+mod under_way;
 mod walk;
 
 pub use fault::CommitFault;

@@ -10,6 +10,7 @@ ghost use Rattle.macs_config.specs.Snapshot.{config_of_parts};
 ghost use Rattle.macs_config.specs.Value.{config_of};
 ghost use Rattle.macs_config.specs.declared.part.Part.{Part};
 ghost use Rattle.macs_store.specs.Commands.{command_of};
+ghost use Rattle.macs_store.specs.Kept.{record_kept};
 ghost use Rattle.macs_store.specs.Replay.{standing_after_command, standing_after_record};
 ghost use Rattle.macs_store.specs.Replay.{standing_after_records, snapshot_parts, all_belong};
 ghost use Rattle.macs_store.specs.Replay.{is_long_kind, reading_of, reads, replay_of, is_raise};
@@ -18,11 +19,11 @@ ghost use Rattle.macs_store.specs.Standing.{IsStanding, accept, ceilings_after, 
 ghost use Rattle.macs_store.specs.Standing.{no_ceilings, standing_with_rx_ceiling};
 ghost use Rattle.macs_store.specs.Standing.{standing_with_tx_ceiling};
 ghost use Rattle.macs_store.specs.Table.{StandingValue, table_ceilings, table_scis, standing_of};
-ghost use Rattle.macs_store.specs.Value.{IsOfRecord};
 
 use crate::ahead::ahead;
 use crate::ceiling_table::CeilingTable;
 use crate::meaning::{Snapshot, plain_command_of};
+use crate::under_way::Kept;
 use macs_config::{Checked, Command, Config, Identity, Judged, Refusal};
 use macs_fields::{An, Sci};
 use macs_record::{Ceiling, Format, Kind, Record};
@@ -176,18 +177,24 @@ impl Standing {
         }
     }
 
-    /// Applies a record that follows from the standing: a command with the verdict of its check, or
-    /// a raised ceiling if nothing was checked.
-    pub(crate) fn keep(&mut self, value: &Record, checked: Option<Checked>)
-        requires follows { IsSome (standing_after_record (standing_of self.old) value.now) }
-        requires checked { IsOfRecord value.now checked }
-        ensures { standing_after_record (standing_of self.old) value.now
+    /// Applies what a record keeps that follows from the standing: a command with the verdict of
+    /// its check, or a raised ceiling.
+    pub(crate) fn keep(&mut self, kept: &Kept)
+        requires follows { IsSome (standing_after_record (standing_of self.old)
+            (record_kept kept.now)) }
+        ensures { standing_after_record (standing_of self.old) (record_kept kept.now)
             ≡ Some (standing_of self.new) }
     {
-        match checked {
-            Some(checked) => self.accept_checked(&checked),
-            None => {
-                self.replay_record(value);
+        match kept {
+            Kept::Command(checked) => {
+                let _judged = checked.judged(); // Its offset is one of the three.
+                self.accept_checked(checked);
+            }
+            Kept::TxCeiling { an, ceiling } => {
+                self.replay_tx(*an, *ceiling);
+            }
+            Kept::RxCeiling { sci, an, ceiling } => {
+                self.replay_rx(*sci, *an, *ceiling);
             }
         }
     }

@@ -1,6 +1,6 @@
 //! What a store keeps, one device call at a time.
 
-ghost use Rattle.std.specs.Prelude.{◌≡◌, ◌<◌, ◌≤◌, ◌^◌, if◌then◌else◌, IfSome, IsOk, IsSome, Some};
+ghost use Rattle.std.specs.Prelude.{◌≡◌, ◌<◌, ◌≤◌, ◌^◌, if◌then◌else◌, IfSome, IsOk, IsSome};
 ghost use Rattle.std.specs.Prelude.{Ok, Err, true, false};
 ghost use Rattle.macs_config.specs.Numbers.{block_beyond};
 ghost use Rattle.macs_journal.specs.Stepping as journal_steps;
@@ -8,6 +8,7 @@ ghost use Rattle.macs_journal.specs.Stepping.{Renews, RenewsWith};
 ghost use Rattle.macs_journal.specs.Value as journal_value;
 ghost use Rattle.macs_journal.specs.declared.fault.JournalFault.TheVariants.{Stopped};
 ghost use Rattle.macs_journal.specs.declared.work.JournalStep.TheVariants.{Idle};
+ghost use Rattle.macs_store.specs.Kept.{record_kept};
 ghost use Rattle.macs_store.specs.Replay.{standing_after_record};
 ghost use Rattle.macs_store.specs.Snapshot.{snapshot};
 ghost use Rattle.macs_store.specs.Standing.{accept, standing_with_rx_raised};
@@ -15,18 +16,17 @@ ghost use Rattle.macs_store.specs.Standing.{standing_with_tx_raised};
 ghost use Rattle.macs_store.specs.Stepping.{Finishes, IsAppending, IsRenewing};
 ghost use Rattle.macs_store.specs.Stepping.{Starts, StartsCommit, StartsRecord, Steps};
 ghost use Rattle.macs_store.specs.Table.{standing_of};
-ghost use Rattle.macs_store.specs.Value.{IsIdle, IsOfRecord, calls_left, is_stopped, standing_in};
+ghost use Rattle.macs_store.specs.Value.{IsIdle, calls_left, is_stopped, standing_in};
 
 use crate::ahead::ahead;
-use crate::change::Change;
 use crate::fault::CommitFault;
 use crate::standing::Standing;
 use crate::store::Store;
+use crate::under_way::{Kept, UnderWay};
 use macs_config::{Checked, Command};
 use macs_disk::SectorDisk;
 use macs_fields::{An, Pn, Sci};
 use macs_journal::{Journal, JournalFault, JournalStep};
-use macs_record::Record;
 use std::mem::replace;
 
 impl<D: SectorDisk> Store<D> {
@@ -57,8 +57,7 @@ impl<D: SectorDisk> Store<D> {
         requires fits { IsOk (accept (standing_in self.old) checked.now) }
         ensures { StartsCommit D.disk self.old checked.now result self.new }
     {
-        let value = Record::of(checked);
-        match self.start(value, Some(*checked)) {
+        match self.start(Kept::Command(*checked)) {
             Ok(()) => Ok(()),
             Err(_) => Err(CommitFault::GenerationsSpent),
         }
@@ -77,7 +76,7 @@ impl<D: SectorDisk> Store<D> {
     {
         let old = self.tx_ceiling(an).unwrap();
         let ceiling = ahead(old.get(), self.identity().tx_block());
-        self.start(Record::TxCeiling { an, ceiling }, None)
+        self.start(Kept::TxCeiling { an, ceiling })
     }
 
     /// Starts to raise the ceiling of a receive association to a block beyond a packet number, to
@@ -92,27 +91,24 @@ impl<D: SectorDisk> Store<D> {
             result self.new }
     {
         let ceiling = ahead(u64::from(pn.get()), self.identity().rx_block());
-        self.start(Record::RxCeiling { sci, an, ceiling }, None)
+        self.start(Kept::RxCeiling { sci, an, ceiling })
     }
 
-    /// Starts work on a record that follows from the standing, with the verdict of its check if it
-    /// is a command's: a raised ceiling has no verdict, and each command has that of its record. If
-    /// all 256 slots are used the journal must be rewritten first.
-    fn start(&mut self, value: Record, checked: Option<Checked>) -> Result<(), JournalFault>
+    /// Starts work on a record that follows from the standing. If all 256 slots are used the
+    /// journal must be rewritten first.
+    fn start(&mut self, kept: Kept) -> Result<(), JournalFault>
         requires idle { IsIdle self.old }
-        requires follows { IsSome (standing_after_record (standing_in self.old) value) }
-        requires checked { IsOfRecord value checked }
-        ensures { StartsRecord D.disk self.old value result self.new }
+        requires follows { IsSome (standing_after_record (standing_in self.old)
+            (record_kept kept)) }
+        ensures { StartsRecord D.disk self.old (record_kept kept) result self.new }
     {
         if self.journal.is_full() {
             self.standing.facts();
             start_renewal(&mut self.journal, &self.standing)?;
-            self.hand = Change::Renewing(value);
-            self.checked = checked;
+            self.under_way = UnderWay::Compacting(kept);
         } else {
-            self.journal.start_append(&value)?;
-            self.hand = Change::Appending(value);
-            self.checked = checked;
+            self.journal.start_append(&kept.record())?;
+            self.under_way = UnderWay::Appending(kept);
         }
         Ok(())
     }
@@ -125,10 +121,10 @@ impl<D: SectorDisk> Store<D> {
     pub fn step(&mut self) -> Result<JournalStep, JournalFault>
         ensures { Steps D.disk self.old result self.new }
     {
-        match &self.hand {
-            Change::Empty => self.rest(),
-            Change::Renewing(_) => self.step_renewal(),
-            Change::Appending(_) => self.step_append(),
+        match &self.under_way {
+            UnderWay::Nothing => self.rest(),
+            UnderWay::Compacting(_) => self.step_renewal(),
+            UnderWay::Appending(_) => self.step_append(),
         }
     }
 
@@ -152,10 +148,10 @@ impl<D: SectorDisk> Store<D> {
         ensures busy { result ≡ true → ¬ IsIdle self.now }
         ensures some { result ≡ true → 1 ≤ calls_left self.now }
     {
-        match &self.hand {
-            Change::Empty => false,
-            Change::Renewing(_) => true,
-            Change::Appending(_) => true,
+        match &self.under_way {
+            UnderWay::Nothing => false,
+            UnderWay::Compacting(_) => true,
+            UnderWay::Appending(_) => true,
         }
     }
 
@@ -179,17 +175,16 @@ impl<D: SectorDisk> Store<D> {
         match step_with_snapshot(&mut self.journal, &self.standing) {
             Ok(step) => match step {
                 JournalStep::Finished => {
-                    if let Change::Renewing(value) = replace(&mut self.hand, Change::Empty) {
-                        self.journal.start_append(&value).unwrap();
-                        self.hand = Change::Appending(value);
+                    if let UnderWay::Compacting(kept) = replace(&mut self.under_way, UnderWay::Nothing) {
+                        self.journal.start_append(&kept.record()).unwrap();
+                        self.under_way = UnderWay::Appending(kept);
                     }
                     Ok(JournalStep::Going)
                 }
                 _ => Ok(JournalStep::Going),
             },
             Err(fault) => {
-                self.hand = Change::Empty; // The next opening finds what stands.
-                self.checked = None;
+                self.under_way = UnderWay::Nothing; // The next opening finds what stands.
                 Err(fault)
             }
         }
@@ -205,17 +200,15 @@ impl<D: SectorDisk> Store<D> {
         match self.journal.step(&[]) {
             Ok(step) => match step {
                 JournalStep::Finished => {
-                    let checked = self.checked.take();
-                    if let Change::Appending(value) = replace(&mut self.hand, Change::Empty) {
-                        self.standing.keep(&value, checked);
+                    if let UnderWay::Appending(kept) = replace(&mut self.under_way, UnderWay::Nothing) {
+                        self.standing.keep(&kept);
                     }
                     Ok(JournalStep::Finished)
                 }
                 _ => Ok(JournalStep::Going), // What stands is as it was.
             },
             Err(fault) => {
-                self.hand = Change::Empty; // The next opening finds the record or not.
-                self.checked = None;
+                self.under_way = UnderWay::Nothing; // The next opening finds the record or not.
                 Err(fault)
             }
         }

@@ -6,15 +6,16 @@ ghost use Rattle.macs_config.specs.Apply.{Named};
 ghost use Rattle.macs_config.specs.Value.{config_of};
 ghost use Rattle.macs_store.specs.Keeps.{Commits, Keeps};
 ghost use Rattle.macs_store.specs.Table.{standing_of};
-ghost use Rattle.macs_store.specs.Value.{FitsChange, IsIdle, IsOfChange, StoreValue, device_in};
+ghost use Rattle.macs_store.specs.Kept.{change_of};
+ghost use Rattle.macs_store.specs.Value.{FitsChange, IsIdle, StoreValue, device_in};
 ghost use Rattle.macs_store.specs.Value.{is_stopped, standing_in};
 ghost use Rattle.macs_config.specs.Numbers.{block_beyond};
 ghost use Rattle.macs_store.specs.Standing.{IsStanding, accept, standing_with_rx_raised};
 ghost use Rattle.macs_store.specs.Standing.{standing_with_tx_raised};
 
-use crate::change::Change;
 use crate::fault::CommitFault;
 use crate::standing::Standing;
+use crate::under_way::UnderWay;
 use macs_config::{Checked, Command, Config, Identity, Refusal};
 use macs_disk::SectorDisk;
 use macs_fields::{An, Pn, Sci};
@@ -31,19 +32,17 @@ use std::marker::Model;
 pub struct Store<D: SectorDisk> {
     pub(crate) journal: Journal<D>,
     pub(crate) standing: Standing,
-    pub(crate) hand: Change,
-    /// The verdict on the command under way; `None` if a ceiling is being raised or no work is
-    /// under way, so that a key is kept no longer than its record is under way.
-    pub(crate) checked: Option<Checked>,
+    pub(crate) under_way: UnderWay,
 }
 
 impl<D: SectorDisk> Model for Store<D> {
     ghost Value = { StoreValue D };
 
-    ghost view = { λ s. record { journal = s.journal; held = s.standing; hand = s.hand } };
+    ghost view = { λ s.
+        record { journal = s.journal; held = s.standing; hand = change_of s.under_way } };
 
-    ghost invariant = { λ s. FitsChange s.journal (standing_of s.standing) s.hand
-        × IsOfChange s.hand s.checked };
+    ghost invariant = { λ s.
+        FitsChange s.journal (standing_of s.standing) (change_of s.under_way) };
 }
 
 impl<D: SectorDisk> Store<D> {
@@ -131,10 +130,10 @@ impl<D: SectorDisk> Store<D> {
     pub fn is_idle(&self) -> bool
         ensures { IsTrue result ↔ IsIdle self.now }
     {
-        match &self.hand {
-            Change::Empty => true,
-            Change::Renewing(_) => false,
-            Change::Appending(_) => false,
+        match &self.under_way {
+            UnderWay::Nothing => true,
+            UnderWay::Compacting(_) => false,
+            UnderWay::Appending(_) => false,
         }
     }
 

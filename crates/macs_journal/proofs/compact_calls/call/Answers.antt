@@ -1,4 +1,4 @@
-use Rattle.std.proofs.Common.{◌≡◌, ◌<◌, ℕ, length, Some, is_some, ap, sym, ◌∙◌, subst, rules}
+use Rattle.std.proofs.Common.{◌≡◌, ◌<◌, ℕ, length, Some, is_some, ap, sym, ◌∙◌, subst}
 use Rattle.std.specs.List.{slice_get}
 use Rattle.std.proofs.lemmas.Option.{same_Some}
 use Rattle.macs_disk.specs.Disk.{Writes, now}
@@ -18,15 +18,7 @@ returns-in-CloseGate-clause-does g c honest =
     (c.write.ensures.effect honest))
 
 pub returns-in-HeadBody-clause-does : goal.returns-in-HeadBody-clause-does
-returns-in-HeadBody-clause-does g c honest =
-    let d = g.D.SectorDisk.disk in
-    rw c.in-HeadBody.is (
-      c.encode_head.result,
-      search rules,
-      subst (λ (at : ℕ). Writes (now (d c.args.disk.now)) (now (d c.write-in-HeadBody.new.self))
-          at c.encode_head.result c.write-in-HeadBody.result) c.head_body.ensures.at
-          (c.write-in-HeadBody.ensures.effect honest),
-    )
+returns-in-HeadBody-clause-does g c honest = rw c.in-HeadBody.is (c.write_head.ensures.does honest)
 
 pub unwrap-value-requires : goal.unwrap-value-requires
 unwrap-value-requires g c =
@@ -37,17 +29,13 @@ unwrap-value-requires g c =
 
 pub returns-in-Body-clause-does : goal.returns-in-Body-clause-does
 returns-in-Body-clause-does g c honest =
-    let d = g.D.SectorDisk.disk in
     let records = g.R.RecordSource.listed c.args.records.now in
-    let here : IsSectorOf c.unwrap-value.result c.encode.result =
-    record { range = c.record_in_range.ensures; octets = sym c.encode.ensures } in
+    let (octets, here, writes) = c.write_record.ensures.does honest in
     let found : slice_get records c.in-Body.slot ≡ Some c.unwrap-value.result = sym c.at.ensures
     ∙ c.unwrap-value.ensures in
     rw c.in-Body.is (
-      c.encode.result,
-      (λ r at. subst (λ (x : Record). IsSectorOf x c.encode.result)
+      octets,
+      (λ r at. subst (λ (x : Record). IsSectorOf x octets)
           (same_Some c.unwrap-value.result r (sym found ∙ at)) here),
-      subst (λ (at : ℕ). Writes (now (d c.args.disk.now)) (now (d c.write-in-Body.new.self))
-          at c.encode.result c.write-in-Body.result) c.slot_body.ensures.at
-          (c.write-in-Body.ensures.effect honest),
+      writes,
     )

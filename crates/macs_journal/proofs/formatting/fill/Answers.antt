@@ -1,15 +1,15 @@
-use Rattle.std.proofs.Common.{◌≡◌, ◌≢◌, ℕ, inl, sym, ◌∙◌, subst, [], ◌∷◌}
+use Rattle.std.proofs.Common.{◌≡◌, ◌≢◌, ℕ, inl, sym, ◌∙◌, subst}
 use Rattle.macs_disk.specs.Disk.{IsHonest, now}
 use Rattle.macs_disk.specs.Runs.{Leaves}
 use Rattle.macs_disk.proofs.Moments.{Leaves-weaker}
+use Rattle.macs_record.specs.Decoding.{IsSectorOf}
 use Rattle.macs_record.specs.Gates.{IsOpen, open_gate}
 use Rattle.macs_record.specs.Heads.{Head, IsHeadOf}
 use Rattle.macs_record.specs.Settings.{default_settings}
-use Rattle.macs_record.specs.declared.record.Record.{Record}
-use Rattle.macs_journal.specs.Areas.{gate, gates, head_body}
+use Rattle.macs_journal.specs.Areas.{gate, gates, head_body, slot_body}
 use Rattle.macs_journal.specs.Formatting.{IsNewOrNone, first_head}
 use Rattle.macs_journal.specs.Found.{IsNotFormatted}
-use Rattle.macs_journal.specs.Rewriting.{AreBodies, AreClosed, IsNoBody, IsNoOpenGate, IsOldOrOpening}
+use Rattle.macs_journal.specs.Rewriting.{AreClosed, IsNoOpenGate, IsOldOrOpening}
 use Rattle.macs_journal.specs.Work.{IsSpared}
 use Rattle.macs_journal.proofs.HeadOpened.{open_gate-opens}
 use Rattle.macs_journal.proofs.Closing.{leaves-bodies, leaves-closing, gates-last, leaves-first, ready-first}
@@ -20,10 +20,10 @@ use Rattle.macs_journal.proofs.formatting.fill.Goals.{After-close_gates, After-o
 
 -- the area is the first
 module _ (g : Over) (c : After-write_bodies g) (honest : IsHonest (g.D.SectorDisk.disk c.write_bodies.new.disk)) where
-  bodies-others : (i : ℕ) → i ≢ head_body 0 → IsNoBody 0 1 i
+  bodies-others : (i : ℕ) → i ≢ head_body 0 → i ≢ slot_body 0 0
       → IsSpared (g.D.SectorDisk.disk c.args.disk.now) (g.D.SectorDisk.disk c.write_bodies.new.disk) i
   bodies-others =
-      subst (λ (a : ℕ). (i : ℕ) → i ≢ head_body a → IsNoBody a 1 i
+      subst (λ (a : ℕ). (i : ℕ) → i ≢ head_body a → i ≢ slot_body a 0
       → IsSpared (g.D.SectorDisk.disk c.args.disk.now) (g.D.SectorDisk.disk c.write_bodies.new.disk) i)
       c.first-area.ensures (c.write_bodies.ensures.others honest)
 
@@ -65,13 +65,11 @@ module _ (g : Over) (c : After-open_head g) (honest : IsHonest (g.D.SectorDisk.d
       (head_body c.first-area.result))) c.first_head-head.ensures
       (c.in_ok-write_bodies.ensures.head honest1))
 
-  record-body : AreBodies (now (g.D.SectorDisk.disk c.write_bodies.new.disk)).seen 0 (default_settings ∷ [])
+  record-body : IsSectorOf default_settings ((now (g.D.SectorDisk.disk c.write_bodies.new.disk)).seen (slot_body 0 0))
   record-body =
-      subst (λ (a : ℕ). AreBodies (now (g.D.SectorDisk.disk c.write_bodies.new.disk)).seen a (default_settings ∷ []))
-      c.first-area.ensures
-      (subst (λ (r : Record). AreBodies (now (g.D.SectorDisk.disk c.write_bodies.new.disk)).seen c.first-area.result
-      (r ∷ [])) c.default.ensures
-      (c.in_ok-write_bodies.ensures.bodies honest1))
+      subst (λ (a : ℕ). IsSectorOf default_settings
+      ((now (g.D.SectorDisk.disk c.write_bodies.new.disk)).seen (slot_body a 0))) c.first-area.ensures
+      (c.in_ok-write_bodies.ensures.body honest1)
 
 pub returns-in_err-write_bodies-clause-images : goal.returns-in_err-write_bodies-clause-images
 returns-in_err-write_bodies-clause-images g c honest blank =

@@ -1,4 +1,4 @@
-use Rattle.std.proofs.Common.{◌≡◌, ◌≢◌, ℕ, true, false, sym, ◌∙◌, ap, subst, arith}
+use Rattle.std.proofs.Common.{◌≡◌, ◌≢◌, ℕ, true, false, sym, ◌∙◌, ap, subst}
 use Rattle.macs_disk.specs.Disk.{IsHonest, now}
 use Rattle.macs_disk.proofs.Images.{put-same}
 use Rattle.macs_disk.proofs.Moments.{Works-on}
@@ -7,7 +7,7 @@ use Rattle.macs_journal.specs.Areas.{gate}
 use Rattle.macs_journal.specs.Found.{IsGateOpen}
 use Rattle.macs_journal.specs.Work.{IsSpared}
 use Rattle.macs_journal.proofs.Spared.{Spared-on, Spared-read, Spared-write}
-use Rattle.macs_journal.proofs.Working.{done-call, failed, failed-later}
+use Rattle.macs_journal.proofs.Working.{failed, failed-later}
 use Rattle.macs_journal.proofs.gates.close_gate.Given.{Over}
 use Rattle.macs_journal.proofs.gates.close_gate.Goals as goal
 use Rattle.macs_journal.proofs.gates.close_gate.Goals.{After-is_open, After-write}
@@ -61,9 +61,6 @@ returns-in_err-read-clause-work g c =
     failed (d c.args.disk.now) (d c.read.new.self) c.from_residual.result c.from_residual.ensures.0
     c.read.ensures.call.work.works c.in_err-read.ensures.call.work.err
 
-pub returns-in_err-read-clause-most : goal.returns-in_err-read-clause-most
-returns-in_err-read-clause-most g c = omega (arith, c.read.ensures.call.at_most_one)
-
 pub returns-in_err-read-clause-closed : goal.returns-in_err-read-clause-closed
 returns-in_err-read-clause-closed g c honest shut i =
     Spared-read _ _ _ _ c.read.result i c.read.ensures.call (c.read.ensures.effect honest)
@@ -80,9 +77,6 @@ returns-in_err-write-clause-work g c =
     c.read.ensures.call.work.works c.in_ok-read.ensures.call.work.ok c.write.ensures.call.work.works
     c.in_err-write.ensures.call.work.err
 
-pub returns-in_err-write-clause-most : goal.returns-in_err-write-clause-most
-returns-in_err-write-clause-most g c = omega (arith, c.read.ensures.call.at_most_one, c.write.ensures.call.at_most_one)
-
 pub returns-in_ok-write-clause-work : goal.returns-in_ok-write-clause-work
 returns-in_ok-write-clause-work g c =
     let d = g.D.SectorDisk.disk in
@@ -92,21 +86,6 @@ returns-in_ok-write-clause-work g c =
       ok = c.in_ok-write.ensures.call.work.ok ∙ c.in_ok-read.ensures.call.work.ok;
       err = tt;
     }
-
-pub returns-in_ok-write-clause-most : goal.returns-in_ok-write-clause-most
-returns-in_ok-write-clause-most g c = omega (arith, c.read.ensures.call.at_most_one, c.write.ensures.call.at_most_one)
-
-pub returns-in_ok-write-clause-two : goal.returns-in_ok-write-clause-two
-returns-in_ok-write-clause-two g c honest opens =
-    let first = done-call _ _ _ c.in_ok-read.ensures.call in
-    let second = done-call _ _ _ c.in_ok-write.ensures.call in
-    omega (arith, first, second)
-
-pub returns-in_ok-write-clause-one : goal.returns-in_ok-write-clause-one
-returns-in_ok-write-clause-one g c honest shut =
-    let path = goal.at.returns-in_ok-write-clause-one g c in
-    absurd (shut (subst IsOpen (gate-read g path.After-is_open (honest-read g path.After-write honest))
-    (c.is_open.ensures.0 c.if-is_open.true)))
 
 pub returns-in_ok-write-clause-closed : goal.returns-in_ok-write-clause-closed
 returns-in_ok-write-clause-closed g c honest shut =
@@ -123,16 +102,6 @@ module _ (g : Over) (c : After-is_open g) (honest : IsHonest (g.D.SectorDisk.dis
 pub returns-else-is_open-clause-work : goal.returns-else-is_open-clause-work
 returns-else-is_open-clause-work g c =
     record { works = c.read.ensures.call.work.works; ok = c.in_ok-read.ensures.call.work.ok; err = tt }
-
-pub returns-else-is_open-clause-most : goal.returns-else-is_open-clause-most
-returns-else-is_open-clause-most g c = omega (arith, c.read.ensures.call.at_most_one)
-
-pub returns-else-is_open-clause-one : goal.returns-else-is_open-clause-one
-returns-else-is_open-clause-one g c honest shut = done-call _ _ _ c.in_ok-read.ensures.call
-
-pub returns-else-is_open-clause-two : goal.returns-else-is_open-clause-two
-returns-else-is_open-clause-two g c honest opens =
-    absurd (not-open g (goal.at.returns-else-is_open-clause-two g c).After-is_open honest c.if-is_open.false opens)
 
 pub returns-else-is_open-clause-gate : goal.returns-else-is_open-clause-gate
 returns-else-is_open-clause-gate g c honest opens =

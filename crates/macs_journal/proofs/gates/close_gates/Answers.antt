@@ -1,9 +1,7 @@
-use Rattle.std.proofs.Common.{◌≡◌, ℕ, refl, sym, ◌∙◌, subst, arith}
-use Rattle.macs_disk.specs.Disk.{IsHonest, now}
+use Rattle.std.proofs.Common.{refl, sym, ◌∙◌, arith}
+use Rattle.macs_disk.specs.Disk.{IsHonest}
 use Rattle.macs_disk.proofs.Moments.{Works-on, Works-start}
-use Rattle.macs_journal.specs.Areas.{gates}
-use Rattle.macs_journal.specs.Compacting.{HasOpenGates}
-use Rattle.macs_journal.proofs.OpenGates.{closed-next, counted-next, no-gates, spared-next}
+use Rattle.macs_journal.proofs.OpenGates.{closed-next, spared-next}
 use Rattle.macs_journal.proofs.Spared.{Spared-start}
 use Rattle.macs_journal.proofs.gates.close_gates.Goals as goal
 
@@ -13,10 +11,6 @@ loop-k-init g c =
     record {
       works = Works-start disk;
       steady = refl;
-      most = omega arith;
-      calls = λ honest is opened has.
-          let none = no-gates (now disk).seen c.args.area c.args.first opened is has in
-          omega (arith, is, none);
       spared = λ honest i apart. Spared-start disk i;
       closed = λ honest k le lt opens. absurd (omega (arith, le, lt));
     }
@@ -31,10 +25,6 @@ loop-k-preserved g c =
     record {
       works = Works-on _ _ _ i.works call.work.works;
       steady = c.in_ok-close_gate.ensures.work.ok ∙ i.steady;
-      most = (let so_far = i.most in let two = call.most in omega (arith, so_far, two));
-      calls = λ honest is. counted-next _ _ _ c.args.area c.args.first c.loop-k.k i.works call.work.works
-          (i.spared (before honest)) (call.others honest)
-          (c.in_ok-close_gate.ensures.one honest) (c.in_ok-close_gate.ensures.two honest) (i.calls (before honest) is);
       spared = λ honest. spared-next _ _ _ _ _ _ i.works call.work.works (i.spared (before honest)) (call.others honest)
           c.loop-k.auto.k (call.closed honest);
       closed = λ honest.
@@ -50,13 +40,6 @@ returns-in_err-close_gate-clause-others g c honest n apart =
     spared-next _ _ _ c.args.area c.args.first c.loop-k.k i.works call.work.works (i.spared before) (call.others honest)
     c.loop-k.auto.k (call.closed honest) n
     (λ k le lt. apart k le (omega (arith, lt, c.loop-k-test.true)))
-
-pub returns-clause-calls : goal.returns-clause-calls
-returns-clause-calls g c honest is opened has =
-    let last : c.loop-k.k ≡ gates = omega (arith, c.loop-k-test.false, c.loop-k.auto.k-end c.requires.room) in
-    let all = c.loop-k.invariant.calls honest is opened (subst (λ (n : ℕ).
-    HasOpenGates (now (g.D.SectorDisk.disk c.args.disk.now)).seen c.args.area n opened) (sym last) has) in
-    omega (arith, all, last)
 
 pub returns-clause-others : goal.returns-clause-others
 returns-clause-others g c honest n apart =

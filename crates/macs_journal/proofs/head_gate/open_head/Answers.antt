@@ -1,6 +1,6 @@
-use Rattle.std.proofs.Common.{◌≢◌, ◌<◌, ◌≤◌, ◌+◌, ℕ, inl, sym, ◌∙◌, arith}
+use Rattle.std.proofs.Common.{◌≢◌, ℕ, inl, sym, ◌∙◌}
 use Rattle.macs_disk.specs.States.{Image, IsImage}
-use Rattle.macs_disk.specs.Disk.{Disk, IsHonest, MayLeave, Works, now}
+use Rattle.macs_disk.specs.Disk.{IsHonest, now}
 use Rattle.macs_disk.specs.Runs.{Leaves, LeavesNothingNew}
 use Rattle.macs_disk.proofs.Calls.{sync-leaves}
 use Rattle.macs_disk.proofs.Moments.{Leaves-call, Leaves-weaker, Works-on}
@@ -8,9 +8,9 @@ use Rattle.macs_journal.specs.Areas.{gate}
 use Rattle.macs_journal.specs.Rewriting.{IsOldOrOpening}
 use Rattle.macs_journal.specs.Work.{IsSpared}
 use Rattle.macs_journal.proofs.Appends.{wrote, sync-image}
-use Rattle.macs_journal.proofs.HeadOpened.{first-left, opening-image, synced-settled}
+use Rattle.macs_journal.proofs.HeadOpened.{opening-image, synced-settled}
 use Rattle.macs_journal.proofs.Spared.{Spared-on, Spared-sync, Spared-write}
-use Rattle.macs_journal.proofs.Working.{done-call, failed, failed-later}
+use Rattle.macs_journal.proofs.Working.{failed, failed-later}
 use Rattle.macs_journal.proofs.head_gate.open_head.Given.{Over}
 use Rattle.macs_journal.proofs.head_gate.open_head.Goals as goal
 use Rattle.macs_journal.proofs.head_gate.open_head.Goals.{After-sync, After-write}
@@ -37,10 +37,6 @@ module _ (g : Over) (c : After-sync g) (honest : IsHonest (g.D.SectorDisk.disk c
 pub returns-in_err-sync-clause-images : goal.returns-in_err-sync-clause-images
 returns-in_err-sync-clause-images g c honest =
     leaves-sync g (goal.at.returns-in_err-sync-clause-images g c).After-sync honest
-
-pub returns-in_err-sync-clause-until : goal.returns-in_err-sync-clause-until
-returns-in_err-sync-clause-until g c honest k from until lt image left =
-    (nothing g (goal.at.returns-in_err-sync-clause-until g c).After-sync honest).each image (k, from, until, left)
 
 pub returns-in_err-sync-clause-others : goal.returns-in_err-sync-clause-others
 returns-in_err-sync-clause-others g c honest i apart =
@@ -74,13 +70,6 @@ module _ (g : Over) (c : After-write g) (honest : IsHonest (g.D.SectorDisk.disk 
       Leaves-call old _ _ c.write.result P
       (Leaves-weaker _ _ (IsImage (now old)) P (λ image left. inl left) nothing-first) c.write.ensures.call here
 
-  -- up to the write nothing new is left
-  until-write : (new : Disk) → Works (g.D.SectorDisk.disk c.sync.new.self) new → (k : ℕ)
-      → (g.D.SectorDisk.disk c.args.disk.now).clock ≤ k → k ≤ new.clock
-      → k < (g.D.SectorDisk.disk c.args.disk.now).clock + 2 → (image : Image) → IsImage (new.past k) image
-      → MayLeave (g.D.SectorDisk.disk c.args.disk.now) image
-  until-write new works = first-left _ _ new nothing-first works (done-call _ _ _ c.in_ok-sync.ensures.call)
-
   spares : (i : ℕ) → i ≢ gate c.args.area 0
       → IsSpared (g.D.SectorDisk.disk c.args.disk.now) (g.D.SectorDisk.disk c.write.new.self) i
   spares i apart =
@@ -93,10 +82,6 @@ module _ (g : Over) (c : After-write g) (honest : IsHonest (g.D.SectorDisk.disk 
 pub returns-in_err-write-clause-images : goal.returns-in_err-write-clause-images
 returns-in_err-write-clause-images g c honest =
     leaves-write g (goal.at.returns-in_err-write-clause-images g c).After-write honest
-
-pub returns-in_err-write-clause-until : goal.returns-in_err-write-clause-until
-returns-in_err-write-clause-until g c honest =
-    until-write g (goal.at.returns-in_err-write-clause-until g c).After-write honest _ c.write.ensures.call.work.works
 
 pub returns-in_err-write-clause-others : goal.returns-in_err-write-clause-others
 returns-in_err-write-clause-others g c honest =
@@ -113,13 +98,6 @@ returns-in_err-sync-2-clause-images g c honest =
     (leaves-write g path honest2) c.sync-2.ensures.call
     (λ image left. here g path honest2 image (sync-image _ _ _ (g.met.D.SectorDisk.sound c.write.new.self honest2).fit
     (c.sync-2.ensures.effect honest) image left))
-
-pub returns-in_err-sync-2-clause-until : goal.returns-in_err-sync-2-clause-until
-returns-in_err-sync-2-clause-until g c honest =
-    let honest2 : IsHonest (g.D.SectorDisk.disk c.write.new.self) =
-    sym c.sync-2.ensures.call.work.works.honest ∙ honest in
-    until-write g (goal.at.returns-in_err-sync-2-clause-until g c).After-write honest2 _
-    (Works-on _ _ _ c.write.ensures.call.work.works c.sync-2.ensures.call.work.works)
 
 pub returns-in_err-sync-2-clause-others : goal.returns-in_err-sync-2-clause-others
 returns-in_err-sync-2-clause-others g c honest i apart =
@@ -140,13 +118,6 @@ returns-clause-images g c honest =
     (leaves-write g path honest2) c.sync-2.ensures.call
     (λ image left. here g path honest2 image (sync-image _ _ _ (g.met.D.SectorDisk.sound c.write.new.self honest2).fit
     (c.sync-2.ensures.effect honest) image left))
-
-pub returns-clause-until : goal.returns-clause-until
-returns-clause-until g c honest =
-    let honest2 : IsHonest (g.D.SectorDisk.disk c.write.new.self) =
-    sym c.sync-2.ensures.call.work.works.honest ∙ honest in
-    until-write g (goal.at.returns-clause-until g c).After-write honest2 _
-    (Works-on _ _ _ c.write.ensures.call.work.works c.sync-2.ensures.call.work.works)
 
 pub returns-clause-others : goal.returns-clause-others
 returns-clause-others g c honest i apart =
@@ -182,21 +153,6 @@ returns-in_err-sync-2-clause-work g c =
     (Works-on _ _ _ c.sync.ensures.call.work.works c.write.ensures.call.work.works)
     (c.in_ok-write.ensures.call.work.ok ∙ c.in_ok-sync.ensures.call.work.ok)
     c.sync-2.ensures.call.work.works c.in_err-sync-2.ensures.call.work.err
-
-pub returns-in_err-sync-2-clause-most : goal.returns-in_err-sync-2-clause-most
-returns-in_err-sync-2-clause-most g c =
-    omega (arith, c.sync.ensures.call.at_most_one, c.write.ensures.call.at_most_one, c.sync-2.ensures.call.at_most_one)
-
-pub returns-clause-most : goal.returns-clause-most
-returns-clause-most g c =
-    omega (arith, c.sync.ensures.call.at_most_one, c.write.ensures.call.at_most_one, c.sync-2.ensures.call.at_most_one)
-
-pub returns-clause-calls : goal.returns-clause-calls
-returns-clause-calls g c =
-    let first = done-call _ _ _ c.in_ok-sync.ensures.call in
-    let second = done-call _ _ _ c.in_ok-write.ensures.call in
-    let third = done-call _ _ _ c.in_ok-sync-2.ensures.call in
-    omega (arith, first, second, third)
 
 pub returns-clause-settled : goal.returns-clause-settled
 returns-clause-settled g c honest =

@@ -10,20 +10,20 @@ use Rattle.macs_journal.proofs.recovery.sync_and_find.Goals as goal
 -- the sync was made, and then the disk was read
 module _ (g : Over) (c : After-find g) (honest : IsHonest (g.D.SectorDisk.disk c.find.new.disk)) where
   synced : IsHonest (g.D.SectorDisk.disk c.sync.new.self)
-  synced = sym c.find.ensures.work.works.honest ∙ honest
+  synced = sym c.find.ensures.reads.work.works.honest ∙ honest
 
   was_honest : IsHonest (g.D.SectorDisk.disk c.args.disk.now)
   was_honest = sym c.sync.ensures.call.work.works.honest ∙ synced
 
   settled : now (g.D.SectorDisk.disk c.find.new.disk) ≡ state_after_sync (now (g.D.SectorDisk.disk c.args.disk.now))
-  settled = untouched-now _ _ c.find.ensures.work.works (c.find.ensures.untouched honest)
+  settled = untouched-now _ _ c.find.ensures.reads.work.works (c.find.ensures.reads.untouched honest)
       ∙ (c.in_ok-sync.ensures.effect synced).ok
 
   leaves : LeavesNothingNew (g.D.SectorDisk.disk c.args.disk.now) (g.D.SectorDisk.disk c.find.new.disk)
   leaves =
       synced-leaves _ _ _ c.sync.result (g.met.D.SectorDisk.sound c.args.disk.now was_honest) c.sync.ensures.call
       (c.sync.ensures.effect synced)
-      c.find.ensures.work.works (c.find.ensures.untouched honest)
+      c.find.ensures.reads.work.works (c.find.ensures.reads.untouched honest)
 
 pub returns-in_err-found-clause-nothing : goal.returns-in_err-found-clause-nothing
 returns-in_err-found-clause-nothing g c = leaves g (goal.at.returns-in_err-found-clause-nothing g c).After-find
@@ -34,7 +34,7 @@ returns-clause-nothing g c = leaves g (goal.at.returns-clause-nothing g c).After
 -- by search: a body without the sync is refused for what it leaves, and not for a name
 pub returns-clause-settled : goal.returns-clause-settled
 returns-clause-settled g c honest =
-    let same = untouched-now _ _ c.find.ensures.work.works (c.find.ensures.untouched honest) in
+    let same = untouched-now _ _ c.find.ensures.reads.work.works (c.find.ensures.reads.untouched honest) in
     search (rules, same)
 
 pub returns-in_err-found-clause-unwritten : goal.returns-in_err-found-clause-unwritten
@@ -49,10 +49,10 @@ returns-in_err-sync-clause-from_first g c honest = stands-after-one _ _ c.sync.r
 
 pub returns-in_err-found-clause-from_first : goal.returns-in_err-found-clause-from_first
 returns-in_err-found-clause-from_first g c honest =
-    stands-from-first _ _ _ c.sync.result c.sync.ensures.call c.find.ensures.work.works
-    (c.find.ensures.untouched honest)
+    stands-from-first _ _ _ c.sync.result c.sync.ensures.call c.find.ensures.reads.work.works
+    (c.find.ensures.reads.untouched honest)
 
 pub returns-clause-from_first : goal.returns-clause-from_first
 returns-clause-from_first g c honest =
-    stands-from-first _ _ _ c.sync.result c.sync.ensures.call c.find.ensures.work.works
-    (c.find.ensures.untouched honest)
+    stands-from-first _ _ _ c.sync.result c.sync.ensures.call c.find.ensures.reads.work.works
+    (c.find.ensures.reads.untouched honest)

@@ -1,5 +1,6 @@
 use Rattle.std.proofs.Common.{inr}
 use Rattle.std.proofs.lemmas.Result.{IfErr-weaker, IfOk-weaker}
+use Rattle.macs_offline.proofs.Tried.{copy-in}
 use Rattle.macs_offline.proofs.trial.try_file.Goals as goal
 
 pub returns-clause-tried : goal.returns-clause-tried
@@ -8,8 +9,8 @@ returns-clause-tried g c =
     IfOk-weaker c.try_on.result _ _
     (λ outcomes tries. record {
       file = c.args.file.now;
-      copy = c.in_ok-copy.copy;
-      is_copy = λ behaves. (said.whole behaves, said.enough behaves, said.copied behaves);
+      copy = c.in_ok-copy.copy.disk;
+      is_copy = λ behaves. copy-in _ c.in_ok-copy.copy (said.copied behaves);
       tries = tries;
     }) c.try_on.ensures.tried
 
@@ -19,7 +20,7 @@ returns-clause-ended g c =
     IfErr-weaker c.try_on.result _ _
     (λ failure ends. inr (
       c.args.file.now,
-      c.in_ok-copy.copy,
-      (λ behaves. (said.whole behaves, said.enough behaves, said.copied behaves)),
+      c.in_ok-copy.copy.disk,
+      (λ behaves. copy-in _ c.in_ok-copy.copy (said.copied behaves)),
       ends,
     )) c.try_on.ensures.ended

@@ -1,4 +1,4 @@
-use Rattle.std.proofs.Common.{◌≡◌, ◌&&◌, ap, ◌∙◌, sym, subst, arith, get_or, refl, Ok, List, true}
+use Rattle.std.proofs.Common.{◌≡◌, ◌&&◌, ap, ◌∙◌, sym, subst, get_or, refl, Ok, List, true}
 use Rattle.std.specs.declared.snapshot.Snapshot.{Snapshot}
 use Rattle.macs_disk.specs.Disk.{Syncs}
 use Rattle.macs_disk.specs.FileDisks.{is_ready, keeps_disk, state_in_file}
@@ -9,10 +9,10 @@ use Rattle.macs_disk.proofs.FileSyncs.{again-synced, disk-synced, fit-synced}
 use Rattle.macs_disk.proofs.FoundAgain.{found-next, found-still}
 use Rattle.macs_disk.proofs.file.FileDiskSectorDisk.sync.Goals as goal
 
--- ---- the first call of a disk
+-- ---- of a settled file, which is left alone
 
-pub returns-then-self-eq1-clause-call : goal.returns-then-self-eq1-clause-call
-returns-then-self-eq1-clause-call g c =
+pub returns-then-is_settled-clause-call : goal.returns-then-is_settled-clause-call
+returns-then-is_settled-clause-call g c =
     let file = g.F.DiskFile.file in
     let old = c.args.self.now in
     let new = c.begin.new.self in
@@ -23,14 +23,12 @@ returns-then-self-eq1-clause-call g c =
     c.begin.ensures.sectors c.in_ok-begin.ensures.steady tt
     (ap (λ (s : Snapshot _). keeps_disk old.layout (file s.value)) c.begin.ensures.shown)
 
-pub returns-then-self-eq1-clause-effect : goal.returns-then-self-eq1-clause-effect
-returns-then-self-eq1-clause-effect g c honest =
+pub returns-then-is_settled-clause-effect : goal.returns-then-is_settled-clause-effect
+returns-then-is_settled-clause-effect g c honest =
     let file = g.F.DiskFile.file in
     let old = c.args.self.now in
     let new = c.begin.new.self in
-    let is = c.if-self-eq1.true in
-    let next = c.in_ok-begin.ensures.ok.1 in
-    let first : old.clock ≡ 0 = omega (arith, is, next) in
+    let first = old.settled c.if-is_settled.true in
     let known = subst (λ (past : List (Snapshot _)). (keeps_disk new.layout (file new.shown.value)
     && is_ready new.layout new.sectors (file (get_or past 0 new.shown).value)) ≡ true)
     c.in_ok-begin.ensures.past honest in
@@ -49,8 +47,8 @@ returns-then-self-eq1-clause-effect g c honest =
       err = tt;
     })
 
-pub returns-then-self-eq1-clause-again : goal.returns-then-self-eq1-clause-again
-returns-then-self-eq1-clause-again g c found =
+pub returns-then-is_settled-clause-again : goal.returns-then-is_settled-clause-again
+returns-then-is_settled-clause-again g c found =
     let old = c.args.self.now in
     let new = c.begin.new.self in
     found-still g.F.DiskFile.file old.layout new.layout old.sectors new.sectors old.file new.file old.is_failed

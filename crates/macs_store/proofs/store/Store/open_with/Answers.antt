@@ -7,7 +7,7 @@ use Rattle.macs_store.specs.Replay.{meaning_of}
 use Rattle.macs_store.specs.Standing.{Standing}
 use Rattle.macs_store.specs.Table.{standing_of}
 use Rattle.macs_store.specs.Value.{StoreValue}
-use Rattle.macs_store.specs.declared.change.Change.TheVariants.{Empty}
+use Rattle.macs_store.specs.Kept.{Empty}
 use Rattle.macs_store.proofs.Migrating.{not-taken-up, recovered-meaning, recovery-refused, taken-up}
 use Rattle.macs_store.proofs.store.Store.open_with.Given.{Over}
 use Rattle.macs_store.proofs.store.Store.open_with.Goals.{After-read-is_read}

@@ -1,4 +1,5 @@
 use Rattle.std.proofs.lemmas.Result.{err_from_is_err_and}
+use Rattle.macs_store.specs.Kept.{change_of, record_kept}
 use Rattle.macs_store.specs.Value.{IsIdle, StoreValue}
 use Rattle.macs_store.proofs.InHand.{append-refused, append-started, renewal-refused, renewal-started}
 use Rattle.macs_store.proofs.store.Store.start.Given.{Over}
@@ -7,7 +8,11 @@ use Rattle.macs_store.proofs.store.Store.start.Goals as goal
 
 module _ (g : Over) (c : After-is_full g) where
   abbrev old : StoreValue g.row.D.Denot
-  old = record { journal = c.self.inside.journal; held = c.self.inside.standing; hand = c.self.inside.hand }
+  old = record {
+    journal = c.self.inside.journal;
+    held = c.self.inside.standing;
+    hand = change_of c.self.inside.under_way;
+  }
 
   idle : IsIdle old
   idle = rw (← c.self.view_is) at c.requires.idle
@@ -16,7 +21,7 @@ pub returns-in_ok-start_renewal : goal.returns-in_ok-start_renewal
 returns-in_ok-start_renewal g c =
     let at = (goal.at.returns-in_ok-start_renewal g c).After-is_full in
     rw (← c.self.view_is)
-    (renewal-started g.D.SectorDisk.disk (old g at) (idle g at) c.args.value
+    (renewal-started g.D.SectorDisk.disk (old g at) (idle g at) (record_kept c.args.kept)
     (c.is_full.ensures.full.0 c.if-is_full.true) c.facts.ensures.stands
     c.start_renewal.new.journal c.in_ok-start_renewal.ensures)
 
@@ -24,8 +29,9 @@ pub returns-in_ok-start_append : goal.returns-in_ok-start_append
 returns-in_ok-start_append g c =
     let at = (goal.at.returns-in_ok-start_append g c).After-is_full in
     rw (← c.self.view_is)
-    (append-started g.D.SectorDisk.disk (old g at) (idle g at) c.args.value (c.is_full.ensures.room c.if-is_full.false)
-    c.start_append.new.self c.in_ok-start_append.ensures)
+    (append-started g.D.SectorDisk.disk (old g at) (idle g at) (record_kept c.args.kept)
+    (c.is_full.ensures.room c.if-is_full.false)
+    c.start_append.new.self (rw c.record.ensures at c.in_ok-start_append.ensures))
 
 pub returns-in_err-start_renewal : goal.returns-in_err-start_renewal
 returns-in_err-start_renewal g c =
@@ -33,7 +39,7 @@ returns-in_err-start_renewal g c =
     let risen = err_from_is_err_and c.from_residual.result c.from_residual.ensures.1 in
     rw (risen.1, risen.2)
     (rw (← c.self.view_is)
-    (renewal-refused g.D.SectorDisk.disk (old g at) (idle g at) c.args.value
+    (renewal-refused g.D.SectorDisk.disk (old g at) (idle g at) (record_kept c.args.kept)
     (c.is_full.ensures.full.0 c.if-is_full.true) c.facts.ensures.stands
     c.in_err-start_renewal.field-0.0 c.start_renewal.new.journal c.in_err-start_renewal.ensures))
 
@@ -44,5 +50,7 @@ returns-in_err-start_append g c =
     err_from_is_err_and c.from_residual-in_err-start_append.result c.from_residual-in_err-start_append.ensures.1 in
     rw (risen.1, risen.2)
     (rw (← c.self.view_is)
-    (append-refused g.D.SectorDisk.disk (old g at) (idle g at) c.args.value (c.is_full.ensures.room c.if-is_full.false)
-    c.in_err-start_append.field-0.0 c.start_append.new.self c.in_err-start_append.ensures))
+    (append-refused g.D.SectorDisk.disk (old g at) (idle g at) (record_kept c.args.kept)
+    (c.is_full.ensures.room c.if-is_full.false)
+    c.in_err-start_append.field-0.0 c.start_append.new.self
+    (rw c.record.ensures at c.in_err-start_append.ensures)))

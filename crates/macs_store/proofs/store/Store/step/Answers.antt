@@ -1,12 +1,14 @@
+use Rattle.std.proofs.Common.{ap}
+use Rattle.macs_store.specs.Kept.{change_of}
 use Rattle.macs_store.proofs.Turns.{rests}
 use Rattle.macs_store.proofs.store.Store.step.Goals as goal
 
-pub returns-in-Empty : goal.returns-in-Empty
-returns-in-Empty g c =
+pub returns-in-Nothing : goal.returns-in-Nothing
+returns-in-Nothing g c =
     rw c.rest.ensures
     (rw (← c.self.view_is) (rests g.D.SectorDisk.disk (record {
       journal = c.self.inside.journal;
       held =
           c.self.inside.standing;
-      hand = c.self.inside.hand;
-    }) c.in-Empty.is))
+      hand = change_of c.self.inside.under_way;
+    }) (ap change_of c.in-Nothing.is)))

@@ -1,0 +1,15 @@
+use Rattle.std.proofs.Common.{ℕ, subst, sym}
+use Rattle.macs_disk.specs.Disk.{Writes, now}
+use Rattle.macs_journal.proofs.bodies.write_record.Goals as goal
+
+pub returns-clause-call : goal.returns-clause-call
+returns-clause-call g c = c.write.ensures.call
+
+pub returns-clause-does : goal.returns-clause-does
+returns-clause-does g c honest =
+    let d = g.D.SectorDisk.disk in (
+      c.encode.result,
+      record { range = c.record_in_range.ensures; octets = sym c.encode.ensures },
+      subst (λ (at : ℕ). Writes (now (d c.args.disk.now)) (now (d c.write.new.self)) at c.encode.result c.write.result)
+          c.slot_body.ensures.at (c.write.ensures.effect honest),
+    )
