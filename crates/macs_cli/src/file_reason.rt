@@ -86,8 +86,7 @@ pub fn failure_told(alloc: Global, word: &str, name: &str, why: &str) -> Failure
     }
 }
 
-/// The failure with this message or `Memory` if there is no
-/// memory for it.
+/// The failure with this message, or `Memory` if there is no memory for it.
 pub fn failure_saying(text: Result<String, AllocError>) -> Failure
     ensures { (said : List ℕ) → IfOk text (λ t. string_bytes t ≡ said)
         → Complains (λ t. t ≡ said) result }

@@ -28,9 +28,9 @@ use Rattle.macs_control.specs.Listening.{said_to, sleep_after}
 use Rattle.macs_control.specs.Replies.{ended_text}
 use Rattle.macs_control.specs.Serving.{ClientsAreTold, DeskState, Speaks, SpeaksAt, Told, asking_after, ended_in}
 use Rattle.macs_control.specs.Serving.{endings, givers, saying}
-use Rattle.macs_control.specs.UnderWay.{client_of, is_full, joined, without}
+use Rattle.macs_control.specs.Unanswered.{client_of, is_full, joined, without}
 use Rattle.macs_control.specs.declared.desk.key_notes.NoteFault.{NoteFault}
-use Rattle.macs_control.specs.declared.desk.under_way.UnderWay.{UnderWay as Entry}
+use Rattle.macs_control.specs.declared.desk.unanswered.Submitted.{Submitted as Entry}
 use Rattle.macs_control.proofs.Queued.{Queues, attended-queue, with_taken}
 
 -- ---- who asks
@@ -112,7 +112,7 @@ if-room true quiet full reports old new talk command (more, is, looks) =
     looks-room full reports old new more command looks
 if-room false quiet full reports old new talk command (is, go, same) = absurd cc
 
--- ---- the commands under way
+-- ---- the unanswered commands
 
 abbrev tickets : List Entry → List ℕ
 tickets entries = map (λ (e : Entry). e.ticket) entries
@@ -153,39 +153,39 @@ record Served (old : DeskState) (events : List DeskEvent) (talks : List (List Ta
   told : List Told
   ends : map ended_in told ≡ flat_map ended_by events
   said : endings events talks ≡ map saying told
-  clients : clients_in old.under_way ++ givers old.asking events talks ≡ clients_of told ++ clients_in new.under_way
-  waiting : tickets new.under_way ≡ left
+  clients : clients_in old.unanswered ++ givers old.asking events talks ≡ clients_of told ++ clients_in new.unanswered
+  waiting : tickets new.unanswered ≡ left
 
 module _ (events : List DeskEvent) (talks : List (List Talk)) (new : DeskState) (left : List ℕ) where
   after-wanted : (quiet : Bool) (order : Order) (talk : List Talk) (old between : DeskState)
-      → between.under_way ≡ old.under_way → between.asking ≡ asking_after old.asking talk
+      → between.unanswered ≡ old.unanswered → between.asking ≡ asking_after old.asking talk
       → Served between events talks new left → Served old (Wanted quiet order ∷ events) (talk ∷ talks) new left
   after-wanted quiet order talk old between same asks served = record {
     told = served.told;
     ends = served.ends;
     said = served.said;
     clients = ap (λ (l : List Entry). clients_in l ++ givers (asking_after old.asking talk) events talks) (sym same)
-        ∙ ap (λ (c : Client). clients_in between.under_way ++ givers c events talks) (sym asks) ∙ served.clients;
+        ∙ ap (λ (c : Client). clients_in between.unanswered ++ givers c events talks) (sym asks) ∙ served.clients;
     waiting = served.waiting;
   }
 
-  after-taken : (ticket : ℕ) (talk : List Talk) (old between : DeskState) → is_full old.under_way ≡ false
+  after-taken : (ticket : ℕ) (talk : List Talk) (old between : DeskState) → is_full old.unanswered ≡ false
       → SpeaksAt old (Took (Ok ticket)) talk between
       → Served between events talks new left → Served old (Took (Ok ticket) ∷ events) (talk ∷ talks) new left
   after-taken ticket talk old between room (silent, joins, asks) served =
       let entry : Entry = record { ticket = ticket; client = old.asking } in
       let more = givers (asking_after old.asking talk) events talks in
-      let is : between.under_way ≡ old.under_way ++ entry ∷ [] = joins ∙ one-more old.under_way entry room in
+      let is : between.unanswered ≡ old.unanswered ++ entry ∷ [] = joins ∙ one-more old.unanswered entry room in
       let still : asking_after old.asking talk ≡ between.asking = ap (asking_after old.asking) silent ∙ sym asks in
       record {
         told = served.told;
         ends = served.ends;
         said = ap (λ (l : List Talk). l ++ endings events talks) silent ∙ served.said;
-        clients = sym (append_assoc (clients_in old.under_way) (old.asking ∷ []) more)
+        clients = sym (append_assoc (clients_in old.unanswered) (old.asking ∷ []) more)
             ∙ ap (λ (l : List Client). l ++ more)
-            (sym (map-append (λ (e : Entry). e.client) old.under_way (entry ∷ [])))
+            (sym (map-append (λ (e : Entry). e.client) old.unanswered (entry ∷ [])))
             ∙ ap (λ (l : List Entry). clients_in l ++ more) (sym is)
-            ∙ ap (λ (c : Client). clients_in between.under_way ++ givers c events talks) still ∙ served.clients;
+            ∙ ap (λ (c : Client). clients_in between.unanswered ++ givers c events talks) still ∙ served.clients;
         waiting = served.waiting;
       }
 
@@ -199,18 +199,18 @@ module _ (events : List DeskEvent) (talks : List (List Talk)) (new : DeskState) 
         ends = served.ends;
         said = served.said;
         clients = ap (λ (l : List Entry). clients_in l ++ givers (asking_after old.asking talk) events talks) (sym same)
-            ∙ ap (λ (c : Client). clients_in between.under_way ++ givers c events talks) still ∙ served.clients;
+            ∙ ap (λ (c : Client). clients_in between.unanswered ++ givers c events talks) still ∙ served.clients;
         waiting = served.waiting;
       }
 
   after-answered : (ticket : ℕ) (end : CommandEnd) (talk : List Talk) (old between : DeskState) (first : Entry)
-      (rest : List Entry) → old.under_way ≡ first ∷ rest → first.ticket ≡ ticket → between.under_way ≡ rest
+      (rest : List Entry) → old.unanswered ≡ first ∷ rest → first.ticket ≡ ticket → between.unanswered ≡ rest
       → SpeaksAt old (Answered ticket end) talk between
       → Served between events talks new left → Served old (Answered ticket end ∷ events) (talk ∷ talks) new left
   after-answered ticket end talk old between first rest is first_is goes (said, gone, asks) served =
       let one : Told = record { client = first.client; ticket = ticket; end = end } in
       let more = givers (asking_after old.asking talk) events talks in
-      let found : client_of old.under_way ticket ≡ Some first.client =
+      let found : client_of old.unanswered ticket ≡ Some first.client =
       ap (λ (l : List Entry). client_of l ticket) is ∙ first-client first rest ticket first_is in
       let text : talk ≡ saying one ∷ [] =
       said ∙ ap (λ (o : Option Client). said_to o (ended_text end)) found in
@@ -222,7 +222,7 @@ module _ (events : List DeskEvent) (talks : List (List Talk)) (new : DeskState) 
         clients = ap (λ (l : List Entry). clients_in l ++ more) is
             ∙ ap (λ (l : List Client). first.client ∷ l)
             (ap (λ (l : List Entry). clients_in l ++ more) (sym goes)
-            ∙ ap (λ (c : Client). clients_in between.under_way ++ givers c events talks) still ∙ served.clients);
+            ∙ ap (λ (c : Client). clients_in between.unanswered ++ givers c events talks) still ∙ served.clients);
         waiting = served.waiting;
       }
 
@@ -232,14 +232,14 @@ module _ (events : List DeskEvent) (talks : List (List Talk)) (new : DeskState) 
     told = served.told;
     ends = served.ends;
     said = served.said;
-    clients = ap (λ (l : List Talk). clients_in old.under_way ++ givers (asking_after old.asking l) events talks) silent
-        ∙ ap (λ (d : DeskState). clients_in d.under_way ++ givers d.asking events talks) (sym same) ∙ served.clients;
+    clients = ap (λ (l : List Talk). clients_in old.unanswered ++ givers (asking_after old.asking l) events talks) silent
+        ∙ ap (λ (d : DeskState). clients_in d.unanswered ++ givers d.asking events talks) (sym same) ∙ served.clients;
     waiting = served.waiting;
   }
 
 -- a command that was handed in, and what follows it
 after-took : (events : List DeskEvent) (talks : List (List Talk)) (new : DeskState) (left : List ℕ)
-    (answer : Result ℕ SubmitFault) (talk : List Talk) (old between : DeskState) → is_full old.under_way ≡ false
+    (answer : Result ℕ SubmitFault) (talk : List Talk) (old between : DeskState) → is_full old.unanswered ≡ false
     → SpeaksAt old (Took answer) talk between
     → Served between events talks new left → Served old (Took answer ∷ events) (talk ∷ talks) new left
 after-took events talks new left (Ok ticket) talk old between room speaks served =
@@ -249,40 +249,40 @@ after-took events talks new left (Err fault) talk old between room speaks served
 
 -- and the tickets under way then
 held-after : (answer : Result ℕ SubmitFault) (talk : List Talk) (old between : DeskState) (waiting : List ℕ)
-    → is_full old.under_way ≡ false
-    → tickets old.under_way ≡ waiting → SpeaksAt old (Took answer) talk between
-    → tickets between.under_way ≡ with_taken waiting answer
+    → is_full old.unanswered ≡ false
+    → tickets old.unanswered ≡ waiting → SpeaksAt old (Took answer) talk between
+    → tickets between.unanswered ≡ with_taken waiting answer
 held-after (Ok ticket) talk old between waiting room held (silent, joins, asks) =
     let entry : Entry = record { ticket = ticket; client = old.asking } in
-    ap tickets (joins ∙ one-more old.under_way entry room)
-    ∙ map-append (λ (e : Entry). e.ticket) old.under_way (entry ∷ []) ∙ ap (λ (l : List ℕ). l ++ ticket ∷ []) held
+    ap tickets (joins ∙ one-more old.unanswered entry room)
+    ∙ map-append (λ (e : Entry). e.ticket) old.unanswered (entry ∷ []) ∙ ap (λ (l : List ℕ). l ++ ticket ∷ []) held
 held-after (Err fault) talk old between waiting room held (told, same, asks) = ap tickets same ∙ held
 
 serves : (events : List DeskEvent) (talks : List (List Talk)) (old new : DeskState) (waiting left : List ℕ)
-    → tickets old.under_way ≡ waiting → Queues waiting events left → Speaks old events talks new
+    → tickets old.unanswered ≡ waiting → Queues waiting events left → Speaks old events talks new
     → Served old events talks new left
 serves [] [] old new waiting left held queues speaks = record {
   told = [];
   ends = refl;
   said = refl;
-  clients = append-nil (clients_in old.under_way) ∙ ap (λ (d : DeskState). clients_in d.under_way) (sym speaks);
-  waiting = ap (λ (d : DeskState). tickets d.under_way) speaks ∙ held ∙ sym queues;
+  clients = append-nil (clients_in old.unanswered) ∙ ap (λ (d : DeskState). clients_in d.unanswered) (sym speaks);
+  waiting = ap (λ (d : DeskState). tickets d.unanswered) speaks ∙ held ∙ sym queues;
 }
 serves (Wanted quiet Go ∷ events) (talk ∷ talks) old new waiting left held queues
     (between, (time, reports, looks, same), more) =
     after-wanted events talks new left quiet Go talk old between same
-    (if-asks time quiet (is_full old.under_way) reports old.asking between.asking talk Go looks)
+    (if-asks time quiet (is_full old.unanswered) reports old.asking between.asking talk Go looks)
     (serves events talks between new waiting left (ap tickets same ∙ held) queues more)
 serves (Wanted quiet End ∷ events) (talk ∷ talks) old new waiting left held queues
     (between, (time, reports, looks, same), more) =
     after-wanted events talks new left quiet End talk old between same
-    (if-asks time quiet (is_full old.under_way) reports old.asking between.asking talk End looks)
+    (if-asks time quiet (is_full old.unanswered) reports old.asking between.asking talk End looks)
     (serves events talks between new waiting left (ap tickets same ∙ held) queues more)
 serves (Wanted quiet (Submit command) ∷ Took answer ∷ events) (talk ∷ then_said ∷ talks) old new waiting
     left held queues
     (between, (time, reports, looks, same), (taken, took, more)) =
-    let full = is_full old.under_way in
-    let room : is_full between.under_way ≡ false =
+    let full = is_full old.unanswered in
+    let room : is_full between.unanswered ≡ false =
     ap is_full same ∙ if-room time quiet full reports old.asking between.asking talk command looks in
     after-wanted (Took answer ∷ events) (then_said ∷ talks) new left quiet (Submit command) talk old between same
     (if-asks time quiet full reports old.asking between.asking talk (Submit command) looks)
@@ -291,14 +291,14 @@ serves (Wanted quiet (Submit command) ∷ Took answer ∷ events) (talk ∷ then
     (held-after answer then_said between taken waiting room (ap tickets same ∙ held) took) queues more))
 serves (Answered ticket end ∷ events) (talk ∷ talks) old new waiting left held (rest, first_is, queues)
     (between, speaks, more) =
-    let (first, others, is, ticket_is, tail) = first-of old.under_way ticket rest (held ∙ first_is) in
-    let goes : between.under_way ≡ others =
+    let (first, others, is, ticket_is, tail) = first-of old.unanswered ticket rest (held ∙ first_is) in
+    let goes : between.unanswered ≡ others =
     speaks.1 ∙ ap (λ (l : List Entry). without l ticket) is ∙ first-gone first others ticket ticket_is in
     after-answered events talks new left ticket end talk old between first others is ticket_is goes speaks
     (serves events talks between new rest left (ap tickets goes ∙ tail) queues more)
 serves (Rested ∷ events) (talk ∷ talks) old new waiting left held queues (between, speaks, more) =
     after-rested events talks new left talk old between speaks
-    (serves events talks between new waiting left (ap (λ (d : DeskState). tickets d.under_way) speaks.1 ∙ held) queues
+    (serves events talks between new waiting left (ap (λ (d : DeskState). tickets d.unanswered) speaks.1 ∙ held) queues
     more)
 serves [] (talk ∷ talks) old new waiting left held queues speaks = absurd speaks
 serves (Wanted quiet Go ∷ events) [] old new waiting left held queues speaks = absurd speaks
@@ -327,16 +327,16 @@ same-tickets (one ∷ told) = ap (λ (l : List ℕ). one.ticket ∷ l) (same-tic
 
 pub clients-told : {D T : Type 0} (disk_of : D → Disk) (turns : ℕ) (old new : Relay D) (events : List DeskEvent)
     (talks : List (List Talk)) (before after : DeskState) (result : Result T RefillFault) → old.to_common ≡ empty_lane
-    → old.to_controlled ≡ empty_lane → old.endpoint.waiting ≡ [] → before.under_way ≡ []
+    → old.to_controlled ≡ empty_lane → old.endpoint.waiting ≡ [] → before.unanswered ≡ []
     → Attends disk_of turns old events result new → Speaks before events talks after
-    → ClientsAreTold before.asking events talks × (after.under_way ≡ [])
+    → ClientsAreTold before.asking events talks × (after.unanswered ≡ [])
 clients-told disk_of turns old new events talks before after result out back none_waits none attends speaks =
     let waiting = tickets_of old.endpoint.waiting in
     let no_waiting : waiting ≡ [] = ap tickets_of none_waits in
     let served = serves events talks before after waiting [] (ap tickets none ∙ sym no_waiting)
     (attended-queue disk_of turns old new events result out back attends) speaks in
     let flow = attended-flows disk_of turns old new events result out back attends in
-    let left : after.under_way ≡ [] = no-entries after.under_way served.waiting in (
+    let left : after.unanswered ≡ [] = no-entries after.unanswered served.waiting in (
       record {
         told = served.told;
         once = sym (same-tickets served.told) ∙ ap (map (λ (e : Ended). e.ticket)) served.ends ∙ flow.once

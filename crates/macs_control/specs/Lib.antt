@@ -11,7 +11,7 @@ pub mod MetricsFiles
 pub mod Buffers
 pub mod Asking
 pub mod StandingWords
-pub mod UnderWay
+pub mod Unanswered
 pub mod Replies
 pub mod Listening
 pub mod Serving

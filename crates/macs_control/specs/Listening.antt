@@ -27,10 +27,10 @@ use Rattle.macs_texts.specs.TrafficTexts.{traffic_text}
 use Rattle.macs_texts.specs.declared.build.Build.{Build}
 use Rattle.macs_texts.specs.declared.program.Program.{Program}
 use Rattle.macs_control.specs.Replies.{end_text, ended_text, not_noted_text, not_taken_text}
-use Rattle.macs_control.specs.UnderWay.{client_of, joined}
+use Rattle.macs_control.specs.Unanswered.{client_of, joined}
 use Rattle.macs_control.specs.declared.desk.key_notes.NoteFault.{NoteFault}
 use Rattle.macs_control.specs.declared.desk.overruns.Dropped.{Dropped}
-use Rattle.macs_control.specs.declared.desk.under_way.UnderWay.{UnderWay as Entry}
+use Rattle.macs_control.specs.declared.desk.unanswered.Submitted.{Submitted as Entry}
 
 -- ---- reports
 
@@ -127,7 +127,7 @@ Listens reports old talk order new =
     ⊎ ((heard : HeardLine) × (said : List Talk) × (talk ≡ Heard (Some heard) ∷ said) × (new ≡ heard.client)
     × Reads reports heard said order)
 
--- no line is taken while 16 commands are under way
+-- no line is taken while 16 commands are unanswered
 abbrev pub ListensUnless : Bool → Reports → Client → List Talk → Order → Client → Type 0
 ListensUnless true reports old talk order new = (talk ≡ []) × (order ≡ Go) × (new ≡ old)
 ListensUnless false reports old talk order new = Listens reports old talk order new
@@ -187,10 +187,10 @@ abbrev pub said_of_taking : Client → Result ℕ SubmitFault → List Talk
 said_of_taking client (Ok ticket) = []
 said_of_taking client (Err fault) = Said client (not_taken_text fault) ∷ []
 
--- the commands then under way
-abbrev pub under_way_after : List Entry → Client → Result ℕ SubmitFault → List Entry
-under_way_after entries client (Ok ticket) = joined entries (record { ticket = ticket; client = client })
-under_way_after entries client (Err fault) = entries
+-- the commands that are then unanswered
+abbrev pub unanswered_after : List Entry → Client → Result ℕ SubmitFault → List Entry
+unanswered_after entries client (Ok ticket) = joined entries (record { ticket = ticket; client = client })
+unanswered_after entries client (Err fault) = entries
 
 -- what is sent when the result of a command is known: to the client that gave it, and to no other
 abbrev pub said_of_ending : List Entry → ℕ → CommandEnd → List Talk

@@ -7,27 +7,27 @@ use Rattle.macs_edge.specs.declared.attending.DeskEvent.{DeskEvent}
 use Rattle.macs_edge.specs.declared.attending.DeskEvent.TheVariants.{Answered, Rested, Took, Wanted}
 use Rattle.macs_commands.specs.Talks.{Talk, Heard, Said}
 use Rattle.macs_commands.specs.declared.requests.clients.Client.{Client}
-use Rattle.macs_control.specs.Listening.{LooksIf, Reports, said_of_ending, said_of_taking, under_way_after}
+use Rattle.macs_control.specs.Listening.{LooksIf, Reports, said_of_ending, said_of_taking, unanswered_after}
 use Rattle.macs_control.specs.Replies.{ended_text}
-use Rattle.macs_control.specs.UnderWay.{is_full, without}
-use Rattle.macs_control.specs.declared.desk.under_way.UnderWay.{UnderWay as Entry}
+use Rattle.macs_control.specs.Unanswered.{is_full, without}
+use Rattle.macs_control.specs.declared.desk.unanswered.Submitted.{Submitted as Entry}
 
 -- ---- a desk, from event to event
 
--- the commands under way and their clients, and the client whose line was taken last
+-- the unanswered commands and their clients, and the client whose line was taken last
 pub record DeskState : Type 0 where
-  pub under_way : List Entry
+  pub unanswered : List Entry
   pub asking : Client
 
--- what is sent to clients at an event, and the commands under way after it: as each call of a desk ensures
+-- what is sent to clients at an event, and the unanswered commands after it: as each call of a desk ensures
 abbrev pub SpeaksAt : DeskState → DeskEvent → List Talk → DeskState → Type 0
 SpeaksAt old (Wanted was_quiet order) talk new = (is_time : Bool) × (reports : Reports)
-    × LooksIf is_time was_quiet (is_full old.under_way) reports old.asking talk order new.asking
-    × (new.under_way ≡ old.under_way)
+    × LooksIf is_time was_quiet (is_full old.unanswered) reports old.asking talk order new.asking
+    × (new.unanswered ≡ old.unanswered)
 SpeaksAt old (Took answer) talk new = (talk ≡ said_of_taking old.asking answer)
-    × (new.under_way ≡ under_way_after old.under_way old.asking answer) × (new.asking ≡ old.asking)
-SpeaksAt old (Answered ticket end) talk new = (talk ≡ said_of_ending old.under_way ticket end)
-    × (new.under_way ≡ without old.under_way ticket) × (new.asking ≡ old.asking)
+    × (new.unanswered ≡ unanswered_after old.unanswered old.asking answer) × (new.asking ≡ old.asking)
+SpeaksAt old (Answered ticket end) talk new = (talk ≡ said_of_ending old.unanswered ticket end)
+    × (new.unanswered ≡ without old.unanswered ticket) × (new.asking ≡ old.asking)
 SpeaksAt old Rested talk new = (talk ≡ []) × (new ≡ old)
 
 -- the same at each of several events, one after another

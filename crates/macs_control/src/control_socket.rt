@@ -12,8 +12,7 @@ use std::os::fd::{AsRawFd, RawFd};
 use std::os::unix::net::{UnixListener, UnixStream};
 use std::rt::{Clock, Files};
 
-/// The longest sleep, in milliseconds: so that a request to end from outside is seen within a
-/// second.
+/// The longest sleep, in milliseconds, so that SIGTERM is noticed within a second.
 const LONGEST_SLEEP: u16 = 1_000;
 
 /// Why the control socket cannot be made.
@@ -108,8 +107,8 @@ fn listener_at<T: Files + Net>(
 }
 
 impl<'a, T: Files + Clock> ControlSocket<'a, T> {
-    /// Over these wires and a socket with a name, or without one: then there are no clients. Each
-    /// sleep lasts at most this many milliseconds, and at most a second.
+    /// Binds the control socket at `path`; without a path there are no clients. A sleep on it and on
+    /// these wires ends after `limit` milliseconds, at most 1,000. Fails with `Memory`, then `Bind`.
     pub fn bind(
         rt: &'a T,
         alloc: Global,

@@ -10,11 +10,11 @@ mod metrics;
 mod no_system;
 mod overruns;
 mod replies;
-mod under_way;
+mod unanswered;
 
 pub use control_desk::ControlDesk;
 pub use key_notes::{KeyNotes, NoteFault};
 pub use last_good::Time;
 pub use no_system::NoSystem;
 pub use overruns::{Dropped, Overruns};
-pub use under_way::{MOST_UNDER_WAY, Queue, UnderWay};
+pub use unanswered::{Submitted, Unanswered};

@@ -138,7 +138,7 @@ impl<F: DiskFile> ClaimedFile<F> {
         Ok(ClaimedFile { file, octets })
     }
 
-    /// How many sectors of 512 octets the file has, counting each.
+    /// How many sectors of 512 octets the file has.
     pub fn sectors(&self) -> u64
         ensures count { result ≡ octets_measured self.now / 512 }
         ensures fits { 512 * result < 2 ^ 64 }

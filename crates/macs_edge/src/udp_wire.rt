@@ -55,7 +55,7 @@ fn room<A: Allocator>(alloc: A, octets: usize) -> Result<Vec<u8, A>, AllocError>
     vec![in alloc; 0; octets]
 }
 
-/// What a datagram from an address is to a wire with this peer: a stranger's is nothing, and
+/// Takes a datagram of the peer as a frame. A datagram from any other address is dropped and
 /// counted.
 fn given(
     datagram: &[u8],

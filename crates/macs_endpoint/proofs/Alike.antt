@@ -10,22 +10,22 @@ use Rattle.macs_endpoint.specs.declared.fault.Stopped.{Stopped}
 module _ (s t : State) where
   -- what is under way and what waits are as they were
   abbrev pub IsAlike : Type 0
-  IsAlike = (t.in_hand ≡ s.in_hand) × (t.waiting ≡ s.waiting)
+  IsAlike = (t.under_way ≡ s.under_way) × (t.waiting ≡ s.waiting)
 
   pub alike-protect : (plain : List ℕ) (result : Result ℕ ProtectFault) (out : List ℕ)
       → ProtectStep s plain result out t → IsAlike
   alike-protect plain (Ok pn) out (none, (o, is_o, is_pn, is_out, is)) =
-      (ap (λ (x : State). x.in_hand) is, ap (λ (x : State). x.waiting) is)
+      (ap (λ (x : State). x.under_way) is, ap (λ (x : State). x.waiting) is)
   alike-protect plain (Err (protect.Tx fault)) out (why, empty, is) =
-      (ap (λ (x : State). x.in_hand) is, ap (λ (x : State). x.waiting) is)
+      (ap (λ (x : State). x.under_way) is, ap (λ (x : State). x.waiting) is)
   alike-protect plain (Err protect.Stopped) out h = absurd h
 
   pub alike-receive : (frame : List ℕ) (result : Result Verdict Stopped) (out : List ℕ)
       → ReceiveStep s frame result out t → IsAlike
   alike-receive frame (Ok verdict) out (inl (step, is_first, is_verdict, is_out, is)) =
-      (ap (λ (x : State). x.in_hand) is, ap (λ (x : State). x.waiting) is)
+      (ap (λ (x : State). x.under_way) is, ap (λ (x : State). x.waiting) is)
   alike-receive frame (Ok verdict) out (inr (a, there, inl (is_verdict, above, is_out, is))) =
-      (ap (λ (x : State). x.in_hand) is, ap (λ (x : State). x.waiting) is)
+      (ap (λ (x : State). x.under_way) is, ap (λ (x : State). x.waiting) is)
   alike-receive frame (Ok verdict) out (inr (a, there, inr (is_verdict, is_out, is))) =
-      (ap (λ (x : State). x.in_hand) is, ap (λ (x : State). x.waiting) is)
+      (ap (λ (x : State). x.under_way) is, ap (λ (x : State). x.waiting) is)
   alike-receive frame (Err stopped) out h = absurd h

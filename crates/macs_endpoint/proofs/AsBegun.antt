@@ -5,7 +5,7 @@ use Rattle.macs_config.specs.declared.command.Command.{Command}
 use Rattle.macs_disk.specs.Disk.{Disk}
 use Rattle.macs_store.specs.Standing.{Standing}
 use Rattle.macs_store.specs.Value.{IsIdle, StoreValue, standing_in, standing_then}
-use Rattle.macs_endpoint.specs.Advancing.{BeginsWith, GoesOn, Piece, ToRaise, next_piece}
+use Rattle.macs_endpoint.specs.Advancing.{BeginsWith, GoesOn, Due, ToRaise, next_due}
 use Rattle.macs_endpoint.specs.Calls.{AdvancesIn, IsCall, Rests}
 use Rattle.macs_endpoint.specs.Ceilings.{CeilingsAfter, Raise, standing_with_raise}
 use Rattle.macs_endpoint.specs.WorkThroughCalls.{Lasts}
@@ -27,7 +27,7 @@ use Rattle.macs_endpoint.specs.declared.progress.Step.{Step as Progress}
 use Rattle.macs_endpoint.specs.declared.progress.Step.TheVariants.{Done, Idle, Reserved, Worked}
 use Rattle.macs_endpoint.proofs.Alike.{alike-protect, alike-receive}
 use Rattle.macs_endpoint.proofs.Between.{none_reserved}
-use Rattle.macs_endpoint.proofs.InHand.{not_stopped, some_is}
+use Rattle.macs_endpoint.proofs.Working.{not_stopped, some_is}
 
 -- raising the ceiling under way makes `to` of the standing, which is `from`
 abbrev LeadsTo : {D : Type 0} → Standing → Standing → EndpointValue D → Type 0
@@ -57,10 +57,10 @@ module _ {D : Type 0} (disk_of : D → Disk) (from to : Standing) (old new : End
       (some_is was.raise leads.1.0 (sym was.reserving ∙ leads.1.1))
       ∙ ap (λ (x : Standing). Some x) leads.1.2
 
-  leads_by : new.in_hand ≡ None → new.store ≡ old.store → IsAtRest new ⊎ (IsReserving new ⊎ IsKeeping new)
+  leads_by : new.under_way ≡ None → new.store ≡ old.store → IsAtRest new ⊎ (IsReserving new ⊎ IsKeeping new)
       → LeadsTo from to new
   leads_by none same (inl rest) = absurd (still_busy rest.store)
-  leads_by none same (inr (inr work)) = absurd (let some = sym none ∙ work.in_hand in cc)
+  leads_by none same (inr (inr work)) = absurd (let some = sym none ∙ work.under_way in cc)
   leads_by none same (inr (inl work)) =
       let stands : standing_in new.store ≡ from = ap (λ (s : StoreValue D). standing_in s) same ∙ leads.0 in
       let is : Some (standing_with_raise from work.raise) ≡ Some to =
@@ -69,8 +69,8 @@ module _ {D : Type 0} (disk_of : D → Disk) (from to : Standing) (old new : End
       (stands, (work.raise, work.reserving, some_is (standing_with_raise from work.raise) to is))
 
   -- and still does where the store is as it was
-  keeps : new.in_hand ≡ old.in_hand → new.store ≡ old.store → LeadsTo from to new
-  keeps in_hand same = leads_by (in_hand ∙ was.in_hand) same still_kept.work
+  keeps : new.under_way ≡ old.under_way → new.store ≡ old.store → LeadsTo from to new
+  keeps under_way same = leads_by (under_way ∙ was.under_way) same still_kept.work
 
   fails : {A : Type 0} → is_stopped new ≡ true → A
   fails stopped = absurd (not_stopped (is_stopped new) stopped running)
@@ -83,7 +83,7 @@ module _ {D : Type 0} (disk_of : D → Disk) (from to : Standing) (old new : End
     t = state_of new after
 
     keeps_state : new.store ≡ old.store → t ≡ s → LeadsTo from to new
-    keeps_state same is = keeps (ap (λ (x : State). x.in_hand) is) same
+    keeps_state same is = keeps (ap (λ (x : State). x.under_way) is) same
 
     advances : (result : Result Progress StepFault) → AdvanceStep s result t → GoesOn old result new
         → CeilingsAfter s (standing_in old.store) old.reserving Advances (Advanced result) (standing_in new.store)
@@ -102,7 +102,7 @@ module _ {D : Type 0} (disk_of : D → Disk) (from to : Standing) (old new : End
 
     submits : (command : Command) (result : Result ℕ SubmitFault) → SubmitStep s command result t
         → new.store ≡ old.store → LeadsTo from to new
-    submits command (Ok ticket) moves same = keeps (ap (λ (x : State). x.in_hand) moves.3) same
+    submits command (Ok ticket) moves same = keeps (ap (λ (x : State). x.under_way) moves.3) same
     submits command (Err submit.QueueFull) moves same = keeps_state same moves.1
     submits command (Err submit.TicketsSpent) moves same = keeps_state same moves.2
     submits command (Err submit.Stopped) moves same = absurd moves
@@ -178,7 +178,7 @@ module _ {D : Type 0} (disk_of : D → Disk) where
 
   -- what is reserved is what was to be raised when the reservation began
   pub as-begun : (old begun last new : EndpointValue D) (turns : List (Transition D)) (raise : Raise) → IsIdle old.store
-      → next_piece old ≡ Some (ToRaise raise)
+      → next_due old ≡ Some (ToRaise raise)
       → IsCall disk_of old Advances (Advanced (Ok Worked)) begun → Lives disk_of begun turns last → Lasts begun turns
       → IsSoundEndpoint last
       → IsCall disk_of last Advances (Advanced (Ok Reserved)) new
@@ -186,10 +186,10 @@ module _ {D : Type 0} (disk_of : D → Disk) where
   as-begun old begun last new turns raise idle is_next begins lives lasts kept ends =
       let from = standing_in old.store in
       let to = standing_with_raise from raise in
-      let began = subst (λ (piece : Option Piece). BeginsWith old piece (Ok Worked) begun) is_next
+      let began = subst (λ (due : Option Due). BeginsWith old due (Ok Worked) begun) is_next
       ((begins.behaves.advances (running_at old begun Worked begins)).begins idle) in
       let does = ends.behaves.advances (running_at last new Reserved ends) in
-      let busy : ¬ IsIdle last.store = λ rests. none_reserved last new (next_piece last) (does.begins rests) in
+      let busy : ¬ IsIdle last.store = λ rests. none_reserved last new (next_due last) (does.begins rests) in
       let leads =
       leads_life from to turns begun last lives lasts kept busy (begins.behaves.ceilings, (raise, began.0, refl)) in
       let done = ends.behaves.ceilings in

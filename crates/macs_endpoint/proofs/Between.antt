@@ -4,7 +4,7 @@ use Rattle.std.proofs.Common.{None, Result, Ok, Err, refl, sym, ◌∙◌, ap, s
 use Rattle.macs_config.specs.declared.command.Command.{Command}
 use Rattle.macs_disk.specs.Disk.{Disk}
 use Rattle.macs_store.specs.Value.{IsIdle, StoreValue}
-use Rattle.macs_endpoint.specs.Advancing.{AdvancesAs, BeginsWith, Piece, ToKeep, ToRaise, next_piece, piece_among}
+use Rattle.macs_endpoint.specs.Advancing.{AdvancesAs, BeginsWith, Due, ToKeep, ToRaise, next_due, due_among}
 use Rattle.macs_endpoint.specs.Advancing.{turn_after, turn_after_step}
 use Rattle.macs_endpoint.specs.Calls.{AdvancesIn, IsCall}
 use Rattle.macs_endpoint.specs.Ceilings.{Raise}
@@ -31,8 +31,8 @@ use Rattle.macs_endpoint.specs.declared.queue.Waiting.{Waiting}
 use Rattle.macs_endpoint.specs.declared.turn.Turn.{Turn as Whose}
 use Rattle.macs_endpoint.specs.declared.turn.Turn.TheVariants as turn
 use Rattle.macs_endpoint.proofs.Alike.{alike-protect, alike-receive}
-use Rattle.macs_endpoint.proofs.Idled.{in_hand_or_not}
-use Rattle.macs_endpoint.proofs.InHand.{at-rest, not_stopped, some_is}
+use Rattle.macs_endpoint.proofs.Idled.{under_way_or_not}
+use Rattle.macs_endpoint.proofs.Working.{at-rest, not_stopped, some_is}
 
 -- a command waits
 abbrev Waits : {D : Type 0} → EndpointValue D → Type 0
@@ -40,26 +40,26 @@ Waits e = (first : Waiting) × (rest : List Waiting) × (e.waiting ≡ first ∷
 
 -- the first command that waits is under way, or is next
 abbrev IsCommands : {D : Type 0} → EndpointValue D → Type 0
-IsCommands e = ((command : Command) × (e.in_hand ≡ Some command)) ⊎ (IsIdle e.store × (e.turn ≡ turn.Command))
+IsCommands e = ((command : Command) × (e.under_way ≡ Some command)) ⊎ (IsIdle e.store × (e.turn ≡ turn.Command))
 
 -- where it is next it begins
 takes_by : (whose : Whose) (o : Option Raise) (w : Option Waiting) (first : Waiting) → whose ≡ turn.Command
     → w ≡ Some first
-    → piece_among whose o w ≡ Some (ToKeep first)
+    → due_among whose o w ≡ Some (ToKeep first)
 takes_by turn.Reservation o w first is waits = absurd cc
 takes_by turn.Command o None first is waits = absurd cc
 takes_by turn.Command None (Some f) first is waits = ap (λ (x : Waiting). Some (ToKeep x)) (some_is f first waits)
 takes_by turn.Command (Some raise) (Some f) first is waits =
     ap (λ (x : Waiting). Some (ToKeep x)) (some_is f first waits)
 
-pub none_reserved : {D : Type 0} (old new : EndpointValue D) (piece : Option Piece)
-    → BeginsWith old piece (Ok Reserved) new → ⊥
+pub none_reserved : {D : Type 0} (old new : EndpointValue D) (due : Option Due)
+    → BeginsWith old due (Ok Reserved) new → ⊥
 none_reserved old new None begins = begins
 none_reserved old new (Some (ToRaise raise)) begins = begins
 none_reserved old new (Some (ToKeep first)) begins = begins
 
-none_idle : {D : Type 0} (old new : EndpointValue D) (piece : Option Piece)
-    → BeginsWith old piece (Ok Idle) new → new ≡ old
+none_idle : {D : Type 0} (old new : EndpointValue D) (due : Option Due)
+    → BeginsWith old due (Ok Idle) new → new ≡ old
 none_idle old new None begins = begins
 none_idle old new (Some (ToRaise raise)) begins = absurd begins
 none_idle old new (Some (ToKeep first)) begins = absurd begins
@@ -95,13 +95,13 @@ module _ {D : Type 0} (disk_of : D → Disk) (old new : EndpointValue D) (kept :
   some_wait none = let is = sym none ∙ waits.2 in cc
 
   -- nothing changes but what waits after the first, and packet numbers
-  stays : (reply : Reply) → reservations_in_reply reply ≡ 0 → new.in_hand ≡ old.in_hand → new.store ≡ old.store
+  stays : (reply : Reply) → reservations_in_reply reply ≡ 0 → new.under_way ≡ old.under_way → new.store ≡ old.store
       → new.turn ≡ old.turn → Waits new → Uses reply
-  stays reply none in_hand store whose wait = inr (inl (
+  stays reply none under_way store whose wait = inr (inl (
     none,
     (λ commands. elim commands [
-      | inl held ↦ inl (held.0, in_hand ∙ held.1)
-      | inr next ↦ inr (ap (λ (x : StoreValue D). x.hand) store ∙ next.0, whose ∙ next.1)
+      | inl held ↦ inl (held.0, under_way ∙ held.1)
+      | inr next ↦ inr (ap (λ (x : StoreValue D). x.under_way) store ∙ next.0, whose ∙ next.1)
     ]),
     wait,
   ))
@@ -117,18 +117,18 @@ module _ {D : Type 0} (disk_of : D → Disk) (old new : EndpointValue D) (kept :
     keeps : (reply : Reply) → reservations_in_reply reply ≡ 0 → new.store ≡ old.store → new.turn ≡ old.turn → t ≡ s
         → Uses reply
     keeps reply none store whose is =
-        stays reply none (ap (λ (x : State). x.in_hand) is) store whose (waits_still (ap (λ (x : State). x.waiting) is))
+        stays reply none (ap (λ (x : State). x.under_way) is) store whose (waits_still (ap (λ (x : State). x.waiting) is))
 
     -- ---- a step
 
     -- a command that is next begins
-    begins : IsIdle old.store → IsCommands old → next_piece old ≡ Some (ToKeep waits.0)
-    begins idle (inl held) = absurd (let is = sym held.1 ∙ (at-rest old kept idle).in_hand running in cc)
+    begins : IsIdle old.store → IsCommands old → next_due old ≡ Some (ToKeep waits.0)
+    begins idle (inl held) = absurd (let is = sym held.1 ∙ (at-rest old kept idle).under_way running in cc)
     begins idle (inr next) =
         takes_by old.turn (raise_in old) (first_waiting old.waiting) waits.0 next.1 (ap first_waiting waits.2)
 
     -- work under way that is a command's
-    held : (¬ IsIdle old.store) → IsCommands old → (command : Command) × (old.in_hand ≡ Some command)
+    held : (¬ IsIdle old.store) → IsCommands old → (command : Command) × (old.under_way ≡ Some command)
     held busy (inl is) = is
     held busy (inr next) = absurd (busy next.0)
 
@@ -136,24 +136,24 @@ module _ {D : Type 0} (disk_of : D → Disk) (old new : EndpointValue D) (kept :
     no_command : (¬ IsIdle old.store) → (raise : Raise) → old.reserving ≡ Some raise
         → IsAtRest old ⊎ (IsReserving old ⊎ IsKeeping old) → IsCommands old → ⊥
     no_command busy raise is (inl rest) commands = busy rest.store
-    no_command busy raise is (inr (inl work)) commands = let none = sym (held busy commands).1 ∙ work.in_hand in cc
+    no_command busy raise is (inr (inl work)) commands = let none = sym (held busy commands).1 ∙ work.under_way in cc
     no_command busy raise is (inr (inr work)) commands = let none = sym is ∙ work.reserving in cc
 
     worked : AdvancesAs disk_of old (Ok Worked) new → IsCommands old → IsCommands new
-    worked does commands = elim (in_hand_or_not old.store.hand) [
+    worked does commands = elim (under_way_or_not old.store.under_way) [
       | inl idle ↦
-          let began = subst (λ (piece : Option Piece). BeginsWith old piece (Ok Worked) new) (begins idle commands)
+          let began = subst (λ (due : Option Due). BeginsWith old due (Ok Worked) new) (begins idle commands)
           (does.begins idle) in
           inl (waits.0.command, began.0)
-      | inr busy ↦ let hand = held busy commands in inl (hand.0, (does.goes_on busy).1 ∙ hand.1)
+      | inr busy ↦ let under_way = held busy commands in inl (under_way.0, (does.goes_on busy).1 ∙ under_way.1)
     ]
 
     advance : (result : Result Progress StepFault) → AdvanceStep s result t → IsStill old Advances (Advanced result) new
         → AdvancesAs disk_of old result new
         → new.turn ≡ turn_after_step old.turn result → IsNotDone (Advanced result) → Uses (Advanced result)
-    advance (Ok Idle) moves still does whose free = elim (in_hand_or_not old.store.hand) [
+    advance (Ok Idle) moves still does whose free = elim (under_way_or_not old.store.under_way) [
       | inl idle ↦
-          let is = none_idle old new (next_piece old) (does.begins idle) in
+          let is = none_idle old new (next_due old) (does.begins idle) in
           keeps (Advanced (Ok Idle)) refl (ap (λ (x : EndpointValue D). x.store) is) whose moves
       | inr busy ↦ absurd (does.goes_on busy)
     ]
@@ -163,8 +163,8 @@ module _ {D : Type 0} (disk_of : D → Disk) (old new : EndpointValue D) (kept :
           | inr taken ↦ ap (λ (x : State). x.waiting) taken.5
         ] in
         inr (inl (refl, worked does, waits_still wait))
-    advance (Ok Reserved) moves still does whose free = elim (in_hand_or_not old.store.hand) [
-      | inl idle ↦ absurd (none_reserved old new (next_piece old) (does.begins idle))
+    advance (Ok Reserved) moves still does whose free = elim (under_way_or_not old.store.under_way) [
+      | inl idle ↦ absurd (none_reserved old new (next_due old) (does.begins idle))
       | inr busy ↦
           let goes = does.goes_on busy in
           inr (inr (
@@ -176,12 +176,12 @@ module _ {D : Type 0} (disk_of : D → Disk) (old new : EndpointValue D) (kept :
     ]
     advance (Ok (Done ticket result)) moves still does whose free = absurd free
     advance (Err step.Stopped) moves still does whose free = absurd moves
-    advance (Err step.GenerationsSpent) moves still does whose free = elim (in_hand_or_not old.store.hand) [
+    advance (Err step.GenerationsSpent) moves still does whose free = elim (under_way_or_not old.store.under_way) [
       | inl idle ↦ inr (inr (
         refl,
-        (λ commands. subst (λ (piece : Option Piece). BeginsWith old piece (Err step.GenerationsSpent) new)
+        (λ commands. subst (λ (due : Option Due). BeginsWith old due (Err step.GenerationsSpent) new)
             (begins idle commands) (does.begins idle)),
-        inr (ap (λ (x : StoreValue D). x.hand) still ∙ idle, whose),
+        inr (ap (λ (x : StoreValue D). x.under_way) still ∙ idle, whose),
         waits_still (ap (λ (x : State). x.waiting) moves),
       ))
       | inr busy ↦ absurd (does.goes_on busy)
@@ -199,7 +199,7 @@ module _ {D : Type 0} (disk_of : D → Disk) (old new : EndpointValue D) (kept :
     submits command (Ok ticket) moves store whose =
         let is = moves.3 in
         let last : Waiting = record { ticket = old.tickets + 1; command = command } in
-        stays (Submitted (Ok ticket)) refl (ap (λ (x : State). x.in_hand) is) store whose (
+        stays (Submitted (Ok ticket)) refl (ap (λ (x : State). x.under_way) is) store whose (
           waits.0,
           waits.1 ++ last ∷ [],
           ap (λ (x : State). x.waiting) is

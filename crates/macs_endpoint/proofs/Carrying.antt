@@ -46,7 +46,7 @@ rx_carried block pn (Some old) (Some new) (Some ceiling) rises within = (rises p
 
 -- an endpoint with the work under way of another one
 abbrev pub with_work : {D : Type 0} → EndpointValue D → EndpointValue D → EndpointValue D
-with_work e other = record other { store = e.store; in_hand = e.in_hand; reserving = e.reserving; waiting = e.waiting }
+with_work e other = record other { store = e.store; under_way = e.under_way; reserving = e.reserving; waiting = e.waiting }
 
 pub work-carried : {D : Type 0} (e other : EndpointValue D)
     → ((raise : Raise) → IsRaiseWithin e.tx e.rx (standing_in e.store).identity raise
@@ -54,13 +54,13 @@ pub work-carried : {D : Type 0} (e other : EndpointValue D)
     → IsAtRest e ⊎ (IsReserving e ⊎ IsKeeping e)
     → IsAtRest (with_work e other) ⊎ (IsReserving (with_work e other) ⊎ IsKeeping (with_work e other))
 work-carried e other rises (inl rest) =
-    inl (record { store = rest.store; reserving = rest.reserving; in_hand = rest.in_hand })
+    inl (record { store = rest.store; reserving = rest.reserving; under_way = rest.under_way })
 work-carried e other rises (inr (inl work)) = inr (inl (record {
   running = work.running;
   busy = work.busy;
   raise = work.raise;
   reserving = work.reserving;
-  in_hand = work.in_hand;
+  under_way = work.under_way;
   leads = work.leads;
   within = rises work.raise work.within;
 }))
@@ -71,7 +71,7 @@ work-carried e other rises (inr (inr work)) = inr (inr (record {
   first = work.first;
   rest = work.rest;
   waiting = work.waiting;
-  in_hand = work.in_hand;
+  under_way = work.under_way;
   in_range = work.in_range;
   after = work.after;
   leads = work.leads;

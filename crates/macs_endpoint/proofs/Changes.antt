@@ -9,7 +9,7 @@ use Rattle.macs_endpoint.specs.Ceilings.{standing_with_raise, standing_with_rese
 use Rattle.macs_endpoint.specs.Queue.{first_command}
 use Rattle.macs_endpoint.specs.State.{Advanced, AdvancedLong, Advances, Call, Commands, Protected, Protects, Ran}
 use Rattle.macs_endpoint.specs.State.{Received, Receives, Refilled, Refills, RefusedLong, Reply, State, Submits}
-use Rattle.macs_endpoint.specs.State.{Submitted, command_made, rx_side, state_after_fault, state_with_in_hand, tx_side}
+use Rattle.macs_endpoint.specs.State.{Submitted, command_made, rx_side, state_after_fault, state_with_under_way, tx_side}
 use Rattle.macs_endpoint.specs.Step.{Step, next_after, numbers_after, state_with_waiting, state_without_first}
 use Rattle.macs_endpoint.specs.declared.fault.CommandFault.TheVariants as ran
 use Rattle.macs_endpoint.specs.declared.fault.RefillFault.TheVariants as refill
@@ -67,7 +67,7 @@ module _ (s t : State) where
   call-changes (Commands command) (Ran (Err (ran.Refused refusal))) quiet (inr runs) = same s t runs.1.2
   call-changes (Commands command) (Ran (Err ran.GenerationsSpent)) quiet (inr runs) = same s t runs.1.2
   call-changes (Commands command) (Ran (Err ran.Disk)) quiet (inr runs) =
-      same (state_after_fault (state_with_in_hand s command)) t runs.1.2
+      same (state_after_fault (state_with_under_way s command)) t runs.1.2
   call-changes (Commands command) (Ran (Err ran.Stopped)) quiet (inr runs) = absurd runs.1
   call-changes (Commands command) (Refilled result) quiet made = absurd (no-answer made)
   call-changes (Commands command) (Submitted result) quiet made = absurd (no-answer made)
@@ -107,7 +107,7 @@ module _ (s t : State) where
   call-changes Advances (Advanced (Ok Idle)) quiet (inr runs) = same s t runs.1
   call-changes Advances (Advanced (Ok Worked)) quiet (inr runs) = elim runs.1 [
     | inl is ↦ same s t is
-    | inr taken ↦ same (state_with_in_hand s taken.0.command) t taken.5
+    | inr taken ↦ same (state_with_under_way s taken.0.command) t taken.5
   ]
   call-changes Advances (Advanced (Ok Reserved)) quiet (inr runs) = same s t runs.1
   call-changes Advances (Advanced (Ok (Done ticket (Ok done)))) quiet (inr runs) =
@@ -126,7 +126,7 @@ module _ (s t : State) where
   call-changes Advances (Advanced (Err step.GenerationsSpent)) quiet (inr runs) = same s t runs.1
   call-changes Advances (Advanced (Err step.Disk)) quiet (inr runs) = elim runs.1 [
     | inl is ↦ same (state_after_fault s) t is
-    | inr taken ↦ same (state_after_fault (state_with_in_hand s taken.1.0.command)) t
+    | inr taken ↦ same (state_after_fault (state_with_under_way s taken.1.0.command)) t
         (taken.2 ∙ ap state_after_fault taken.1.5)
   ]
   call-changes Advances (Advanced (Err step.Stopped)) quiet (inr runs) = absurd runs.1

@@ -33,7 +33,7 @@ use Rattle.macs_endpoint.specs.KeptCommands.{KeepsCommand, most_in_command}
 use Rattle.macs_endpoint.specs.Limits.{IsLimited, IsStill}
 use Rattle.macs_endpoint.specs.Restart.{Fits, FitsCall, state_during, state_taking_alone}
 use Rattle.macs_endpoint.specs.RefillCosts.{reserved_in}
-use Rattle.macs_endpoint.specs.State.{Accepts, Commands, Logs, Ran, State, state_after_fault, state_with_in_hand}
+use Rattle.macs_endpoint.specs.State.{Accepts, Commands, Logs, Ran, State, state_after_fault, state_with_under_way}
 use Rattle.macs_endpoint.specs.Step.{Step, next_after, numbers_after}
 use Rattle.macs_endpoint.specs.Value.{AreChannels, EndpointValue, IsBacked, IsSoundEndpoint, disk_in, is_stopped}
 use Rattle.macs_endpoint.specs.Value.{state_of}
@@ -44,7 +44,7 @@ use Rattle.macs_endpoint.specs.declared.turn.Turn.TheVariants as turn
 use Rattle.macs_endpoint.proofs.Alone.{alone-call}
 use Rattle.macs_endpoint.proofs.Ended.{kept-held, not_stopped}
 use Rattle.macs_endpoint.proofs.Fitting.{AreAhead, accept-parts, ahead-within, command-ahead, fits-commit, kept-ahead}
-use Rattle.macs_endpoint.proofs.InHand.{at-rest, kept-backed}
+use Rattle.macs_endpoint.proofs.Working.{at-rest, kept-backed}
 
 -- ---- refusals
 
@@ -55,10 +55,10 @@ by_accepted s command (Err refusal) is = absurd cc
 
 -- a command is under way while it is kept
 during-held : (s : State) (command : Command) → s.waiting ≡ [] → s.stopped ≡ false → Accepts s command
-    → state_during s (Commands command) ≡ state_with_in_hand s command
+    → state_during s (Commands command) ≡ state_with_under_way s command
 during-held s command none running accepts =
     ap (λ (waiting : List Waiting). state_taking_alone s command waiting) none
-    ∙ (λ i. if not (running i) && accepts i then state_with_in_hand s command else s)
+    ∙ (λ i. if not (running i) && accepts i then state_with_under_way s command else s)
 
 module _ {D : Type 0} (disk_of : D → disk.Disk) (e : EndpointValue D) (command : Command)
     (ranges : IsCommand command) where
@@ -146,8 +146,8 @@ module _ {D : Type 0} (disk_of : D → disk.Disk) (e : EndpointValue D) (kept : 
   free : e.reserving ≡ None
   free = (at-rest e kept idle).reserving
 
-  no_hand : e.in_hand ≡ None
-  no_hand = (at-rest e kept idle).in_hand running
+  none_under_way : e.under_way ≡ None
+  none_under_way = (at-rest e kept idle).under_way running
 
   few_calls : (old new : ℕ) → new ≤ old + most_calls e.store → new ≤ old + most_in_command e
   few_calls old new within =
@@ -171,7 +171,7 @@ module _ {D : Type 0} (disk_of : D → disk.Disk) (e : EndpointValue D) (kept : 
   stands_ran result s stands =
       subst (λ (o : Option Raise). StandsRan (standing_in e.store) o command result s) (sym free) stands
 
-  -- the journal cannot start over
+  -- the journal cannot be compacted
   pub spent-command : (s : store.StoreValue D) → Commits disk_of e.store command (Err commit.GenerationsSpent) s
       → KeepsCommand disk_of e command (Err GenerationsSpent) (record e { store = s; turn = turn.Reservation })
   spent-command s commits =
@@ -203,7 +203,7 @@ module _ {D : Type 0} (disk_of : D → disk.Disk) (e : EndpointValue D) (kept : 
       (FitsCall sectors old (Commands command) later)
       (λ image left. inl
       (subst (λ (s : State). Fits this_edition sectors image s) (sym (during-held old command none running accepts))
-      (fits-commit sectors image backed.size (state_with_in_hand old command) (standing_in e.store).ceilings command
+      (fits-commit sectors image backed.size (state_with_under_way old command) (standing_in e.store).ceilings command
       (kept-ahead e kept) ranges refl left)))
       leaves
 
@@ -211,7 +211,7 @@ module _ {D : Type 0} (disk_of : D → disk.Disk) (e : EndpointValue D) (kept : 
 
   module _ (s : store.StoreValue D) (commits : Commits disk_of e.store command (Err commit.Disk) s) where
     abbrev cut : EndpointValue D
-    cut = record e { store = s; in_hand = Some command; turn = turn.Reservation }
+    cut = record e { store = s; under_way = Some command; turn = turn.Reservation }
 
     cut_same : standing_in s ≡ standing_in e.store
     cut_same = ap standing_of (commits.halted refl).1
@@ -224,11 +224,11 @@ module _ {D : Type 0} (disk_of : D → disk.Disk) (e : EndpointValue D) (kept : 
         (inl (record {
           store = commits.idle;
           reserving = free;
-          in_hand =
+          under_way =
               λ going. absurd (not_stopped (store.is_stopped s) cut_stopped going);
         }))
 
-    cut_state : (logs : Logs) → state_of cut logs ≡ state_after_fault (state_with_in_hand (state_of e logs) command)
+    cut_state : (logs : Logs) → state_of cut logs ≡ state_after_fault (state_with_under_way (state_of e logs) command)
     cut_state logs = λ i. record {
       edition = this_edition;
       identity = (cut_same i).identity;
@@ -237,7 +237,7 @@ module _ {D : Type 0} (disk_of : D → disk.Disk) (e : EndpointValue D) (kept : 
       numbers = (rxsc.rx_side_of e.rx).numbers;
       logs = logs;
       stopped = cut_stopped i;
-      in_hand = Some command;
+      under_way = Some command;
       waiting = e.waiting;
       tickets = e.tickets;
     }
@@ -252,7 +252,7 @@ module _ {D : Type 0} (disk_of : D → disk.Disk) (e : EndpointValue D) (kept : 
           size = size;
           stored = λ going. absurd (not_stopped (store.is_stopped s) cut_stopped going);
           fits = λ logs image left. subst (λ (x : State). Fits this_edition sectors image x) (sym (cut_state logs))
-              (fits-commit sectors image size (state_after_fault (state_with_in_hand (state_of e logs) command))
+              (fits-commit sectors image size (state_after_fault (state_with_under_way (state_of e logs) command))
               (standing_in e.store).ceilings command (kept-ahead e kept) ranges refl
               (Leaves-now (disk_in disk_of e) (disk_in disk_of cut) (CommitLeaves (standing_in e.store) command) leaves
               image left));
@@ -322,7 +322,7 @@ module _ {D : Type 0} (disk_of : D → disk.Disk) (e : EndpointValue D) (kept : 
           within = ahead-within tx rx (standing_in s) channels third;
           few = kept.few;
           tickets = kept.tickets;
-          work = inl (record { store = commits.idle; reserving = free; in_hand = λ going. no_hand });
+          work = inl (record { store = commits.idle; reserving = free; under_way = λ going. none_under_way });
         }
 
     pub done-command : txsc.counters_of tx ≡ txsc.counters_of e.tx → rxsc.counters_of rx ≡ rxsc.counters_of e.rx
@@ -351,7 +351,7 @@ module _ {D : Type 0} (disk_of : D → disk.Disk) (e : EndpointValue D) (kept : 
                         numbers = numbers i;
                         logs = logs;
                         stopped = (commits.running ∙ sym running) i;
-                        in_hand = no_hand i;
+                        under_way = none_under_way i;
                         waiting = e.waiting;
                         tickets = e.tickets;
                       },

@@ -20,11 +20,11 @@ use Rattle.macs_rxsc.specs.Value as rxsc
 use Rattle.macs_store.specs.Found.{StandsForEither}
 use Rattle.macs_store.specs.Keeps.{IsSpent, most_calls}
 use Rattle.macs_store.specs.Standing.{Standing}
-use Rattle.macs_store.specs.Stepping.{Finishes, HasInHand, Steps}
+use Rattle.macs_store.specs.Stepping.{Finishes, HasUnderWay, Steps}
 use Rattle.macs_store.specs.Table.{standing_of}
 use Rattle.macs_store.specs.Value.{IsIdle, IsStored, standing_in, standing_then}
 use Rattle.macs_store.specs.Value as store
-use Rattle.macs_store.specs.Kept.{Change}
+use Rattle.macs_store.specs.UnderWay.{UnderWay}
 use Rattle.macs_endpoint.specs.Ceilings.{Raise, standing_with_raise, standing_with_reserved}
 use Rattle.macs_endpoint.specs.Faults.{refill_fault_of}
 use Rattle.macs_endpoint.specs.Needed.{raise_in}
@@ -41,7 +41,7 @@ use Rattle.macs_endpoint.specs.declared.turn.Turn.{Turn}
 use Rattle.macs_endpoint.proofs.Begun.{first-within}
 use Rattle.macs_endpoint.proofs.Fitting.{AreAhead, ahead-within, kept-ahead}
 use Rattle.macs_endpoint.proofs.Raises.{raise-parts}
-use Rattle.macs_endpoint.proofs.InHand.{at-rest, cut-backed, fits-moments, kept-backed, raise-ahead, some_is}
+use Rattle.macs_endpoint.proofs.Working.{at-rest, cut-backed, fits-moments, kept-backed, raise-ahead, some_is}
 
 -- ---- what the store says of its work
 
@@ -140,21 +140,21 @@ kept-held e other kept same few tickets work = record {
 module _ {D : Type 0} (disk_of : D → disk.Disk) (e : EndpointValue D) (kept : IsSoundEndpoint e)
     (running : is_stopped e ≡ false) (idle : IsIdle e.store)
     (raise : Raise) (first : raise_in e ≡ Some raise) (s : store.StoreValue D)
-    (in_hand : HasInHand disk_of e.store (standing_with_raise (standing_in e.store) raise) s) where
+    (under_way : HasUnderWay disk_of e.store (standing_with_raise (standing_in e.store) raise) s) where
   abbrev begun : EndpointValue D
   begun = record e { store = s; reserving = Some raise }
 
   begun_same : standing_in s ≡ standing_in e.store
-  begun_same = ap standing_of in_hand.standing
+  begun_same = ap standing_of under_way.standing
 
   pub begun-reserving : IsReserving begun
   begun-reserving = record {
-    running = in_hand.running;
-    busy = in_hand.busy;
+    running = under_way.running;
+    busy = under_way.busy;
     raise = raise;
     reserving = refl;
-    in_hand = (at-rest e kept idle).in_hand running;
-    leads = in_hand.leads ∙ ap (λ (x : Standing). Some (standing_with_raise x raise)) (sym begun_same);
+    under_way = (at-rest e kept idle).under_way running;
+    leads = under_way.leads ∙ ap (λ (x : Standing). Some (standing_with_raise x raise)) (sym begun_same);
     within = subst (λ (x : Standing). IsRaiseWithin e.tx e.rx x.identity raise) (sym begun_same)
         (first-within e kept raise first);
   }
@@ -163,7 +163,7 @@ module _ {D : Type 0} (disk_of : D → disk.Disk) (e : EndpointValue D) (kept : 
   begun-kept = kept-held e begun kept begun_same kept.few kept.tickets (inr (inl begun-reserving))
 
   begun_disk : disk_in disk_of begun ≡ disk_in disk_of e
-  begun_disk = ap disk_of in_hand.device
+  begun_disk = ap disk_of under_way.device
 
   pub begun-state : (logs : Logs) → state_of begun logs ≡ state_of e logs
   begun-state logs = λ i. record {
@@ -173,8 +173,8 @@ module _ {D : Type 0} (disk_of : D → disk.Disk) (e : EndpointValue D) (kept : 
     next = (txsc.tx_side_of e.tx).next;
     numbers = (rxsc.rx_side_of e.rx).numbers;
     logs = logs;
-    stopped = (in_hand.running ∙ sym running) i;
-    in_hand = e.in_hand;
+    stopped = (under_way.running ∙ sym running) i;
+    under_way = e.under_way;
     waiting = e.waiting;
     tickets = e.tickets;
   }
@@ -183,7 +183,7 @@ module _ {D : Type 0} (disk_of : D → disk.Disk) (e : EndpointValue D) (kept : 
   begun-backed backed =
       kept-backed begun begun-kept disk_of
       (subst (λ (d : disk.Disk). least_sectors ≤ d.sectors) (sym begun_disk) backed.size)
-      (in_hand.stored (backed.stored running))
+      (under_way.stored (backed.stored running))
 
   limited_from : (result : Result (Unit {0}) RefillFault) (new : EndpointValue D)
       → IsLimited begun Refills (Refilled result) new
@@ -218,7 +218,7 @@ module _ {D : Type 0} (disk_of : D → disk.Disk) (e : EndpointValue D) (kept : 
       → (disk_in disk_of new).clock ≤ (disk_in disk_of e).clock + most_calls e.store
   few_calls new most =
       subst (λ (d : disk.Disk). (disk_in disk_of new).clock ≤ d.clock + most_calls e.store) begun_disk
-      (subst (λ (n : ℕ). (disk_in disk_of new).clock ≤ (disk_in disk_of begun).clock + n) in_hand.left most)
+      (subst (λ (n : ℕ). (disk_in disk_of new).clock ≤ (disk_in disk_of begun).clock + n) under_way.left most)
 
   not_spent : (at : RefillFault) → IsErrOf {T = Unit {0}} (Err at) refill.Disk
       → IsErrOf {T = Unit {0}} (Err at) refill.GenerationsSpent → ⊥
@@ -233,8 +233,8 @@ module _ {D : Type 0} (disk_of : D → disk.Disk) (e : EndpointValue D) (kept : 
     same = tt;
     spent = (λ other. absurd cc, λ is. absurd (room is));
     refused = λ other. absurd cc;
-    slots = ends.slots ∙ in_hand.slots;
-    generation = ends.generation ∙ in_hand.generation;
+    slots = ends.slots ∙ under_way.slots;
+    generation = ends.generation ∙ under_way.generation;
     most = few_calls new ends.most;
   }
   ends_raised (Err at) new room ends = record {
@@ -255,7 +255,7 @@ module _ {D : Type 0} (disk_of : D → disk.Disk) (e : EndpointValue D) (kept : 
   begun-raised mid new result same room ends =
       ends_raised result new room (subst (λ (x : EndpointValue D). ReservationEnds disk_of x result new) same ends)
 
--- no reservation begins, since the journal cannot start over
+-- no reservation begins, since the journal cannot be compacted
 pub spent-raised : {D : Type 0} (disk_of : D → disk.Disk) (e : EndpointValue D) (raise : Raise) → IsIdle e.store
     → IsSpent e.store
     → Raised disk_of e raise (Err refill.GenerationsSpent) e
@@ -315,7 +315,7 @@ module _ {D : Type 0} (disk_of : D → disk.Disk) (e : EndpointValue D) (kept : 
         (raise-ahead e.tx e.rx (standing_in e.store) kept.channels (kept-ahead e kept) work.raise work.within))))
 
     pub raised-rest : IsAtRest raised
-    raised-rest = record { store = done.idle; reserving = refl; in_hand = λ going. work.in_hand }
+    raised-rest = record { store = done.idle; reserving = refl; under_way = λ going. work.under_way }
 
     pub raised-kept : IsSoundEndpoint raised
     raised-kept = record {
@@ -337,7 +337,7 @@ module _ {D : Type 0} (disk_of : D → disk.Disk) (e : EndpointValue D) (kept : 
       numbers = (rx_side i).numbers;
       logs = logs;
       stopped = (done.running ∙ sym work.running) i;
-      in_hand = e.in_hand;
+      under_way = e.under_way;
       waiting = e.waiting;
       tickets = e.tickets;
     }
@@ -361,7 +361,7 @@ module _ {D : Type 0} (disk_of : D → disk.Disk) (e : EndpointValue D) (kept : 
 
     pub given_up-kept : IsSoundEndpoint given_up
     given_up-kept = kept-held e given_up kept cut.stands kept.few kept.tickets
-        (inl (record { store = cut.idle; reserving = refl; in_hand = λ going. work.in_hand }))
+        (inl (record { store = cut.idle; reserving = refl; under_way = λ going. work.under_way }))
 
     pub given_up-state : (logs : Logs) → state_of given_up logs ≡ state_after_fault (state_of e logs)
     given_up-state logs = λ i. record {
@@ -372,7 +372,7 @@ module _ {D : Type 0} (disk_of : D → disk.Disk) (e : EndpointValue D) (kept : 
       numbers = (rxsc.rx_side_of e.rx).numbers;
       logs = logs;
       stopped = cut.stopped i;
-      in_hand = e.in_hand;
+      under_way = e.under_way;
       waiting = e.waiting;
       tickets = e.tickets;
     }
@@ -438,8 +438,8 @@ module _ {D : Type 0} (disk_of : D → disk.Disk) (e : EndpointValue D) (kept : 
     fault = tt;
     same = tt;
     still = λ idle. refl;
-    slots = sym (ap (λ (h : Change). store.slots_with e.store h) rest.store);
-    generation = sym (ap (λ (h : Change). store.generation_with e.store h) rest.store);
+    slots = sym (ap (λ (h : UnderWay). store.slots_with e.store h) rest.store);
+    generation = sym (ap (λ (h : UnderWay). store.generation_with e.store h) rest.store);
     most = omega arith;
   }
 

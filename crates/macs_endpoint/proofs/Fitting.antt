@@ -25,7 +25,7 @@ use Rattle.macs_store.proofs.Keeping.{accepted-in_range}
 use Rattle.macs_endpoint.specs.Value.{AreChannels, AreWithin, IsSoundEndpoint, IsRxWithin, IsTxWithin, EndpointValue}
 use Rattle.macs_endpoint.specs.Restart.{Fits, Resumes, RxRises, TxRises, opened_state, state_during, state_taking}
 use Rattle.macs_endpoint.specs.Restart.{state_taking_alone, state_taking_first}
-use Rattle.macs_endpoint.specs.State.{Advances, Commands, State, state_with_in_hand}
+use Rattle.macs_endpoint.specs.State.{Advances, Commands, State, state_with_under_way}
 use Rattle.macs_endpoint.specs.Step.{next_after, numbers_after}
 use Rattle.macs_endpoint.specs.declared.queue.Waiting.{Waiting}
 
@@ -257,7 +257,7 @@ module _ (sectors : ℕ) (image : Image) (size : least_sectors ≤ sectors) wher
   -- what the command under way makes of the configuration
   pub fits-command : (s : State) (c : Ceilings) (command : Command) (made : Standing)
       → AreAhead s.identity s.next s.numbers c
-      → IsCommand command → s.in_hand ≡ Some command → accept (standing_with s c) command ≡ Ok made
+      → IsCommand command → s.under_way ≡ Some command → accept (standing_with s c) command ≡ Ok made
       → StandsFor s.edition image made
       → Fits s.edition sectors image s
   fits-command s c command made are ranges holds accepts finds =
@@ -267,7 +267,7 @@ module _ (sectors : ℕ) (image : Image) (size : least_sectors ≤ sectors) wher
         config = config;
         next = next_after command s.next;
         numbers = numbers_after command s.numbers;
-        in_hand = None;
+        under_way = None;
       } in
       let later : AreAhead mid.identity mid.next mid.numbers (ceilings_after s.identity command c) =
       command-ahead s.identity command s.next s.numbers c ranges
@@ -282,16 +282,16 @@ module _ (sectors : ℕ) (image : Image) (size : least_sectors ≤ sectors) wher
   -- what a power loss leaves while the command under way is kept
   pub fits-commit : (s : State) (c : Ceilings) (command : Command) → AreAhead s.identity s.next s.numbers c
       → IsCommand command
-      → s.in_hand ≡ Some command → CommitLeaves (standing_with s c) command image → Fits s.edition sectors image s
+      → s.under_way ≡ Some command → CommitLeaves (standing_with s c) command image → Fits s.edition sectors image s
   fits-commit s c command are ranges holds left = elim left.0 [
     | inl before ↦ fits-ahead s c are before
     | inr later ↦ fits-command s c command later.0 are ranges holds later.1 later.2
   ]
 
   -- a command under way leaves what fits
-  pub fits-holding : (edition : Edition) (s : State) (command : Command) → s.in_hand ≡ None
+  pub fits-holding : (edition : Edition) (s : State) (command : Command) → s.under_way ≡ None
       → Fits edition sectors image s
-      → Fits edition sectors image (state_with_in_hand s command)
+      → Fits edition sectors image (state_with_under_way s command)
   fits-holding edition s command free fits = record {
     found = fits.found;
     is_found = fits.is_found;
@@ -313,17 +313,17 @@ module _ (sectors : ℕ) (image : Image) (size : least_sectors ≤ sectors) wher
   }
 
   -- and where it may be taken
-  pub fits-taking : (edition : Edition) (s : State) (command : Command) → s.in_hand ≡ None
+  pub fits-taking : (edition : Edition) (s : State) (command : Command) → s.under_way ≡ None
       → Fits edition sectors image s
       → Fits edition sectors image (state_taking s command)
   fits-taking edition s command free fits =
-      fits-if edition s (state_with_in_hand s command)
+      fits-if edition s (state_with_under_way s command)
       (not s.stopped && is_ok (apply s.edition s.identity s.config command)) sectors image
       (fits-holding edition s command free fits) fits
 
-  fits-first : (edition : Edition) (s : State) (in_hand : Option Command) (waiting : List Waiting) → s.in_hand ≡ in_hand
+  fits-first : (edition : Edition) (s : State) (under_way : Option Command) (waiting : List Waiting) → s.under_way ≡ under_way
       → Fits edition sectors image s
-      → Fits edition sectors image (state_taking_first s in_hand waiting)
+      → Fits edition sectors image (state_taking_first s under_way waiting)
   fits-first edition s None [] free fits = fits
   fits-first edition s None (first ∷ rest) free fits = fits-taking edition s first.command free fits
   fits-first edition s (Some command) waiting holds fits = fits
@@ -331,16 +331,16 @@ module _ (sectors : ℕ) (image : Image) (size : least_sectors ≤ sectors) wher
   -- what fits the state before a step fits it while the step is made
   pub fits-advancing : (edition : Edition) (s : State) → Fits edition sectors image s
       → Fits edition sectors image (state_during s Advances)
-  fits-advancing edition s fits = fits-first edition s s.in_hand s.waiting refl fits
+  fits-advancing edition s fits = fits-first edition s s.under_way s.waiting refl fits
 
-  fits-alone : (edition : Edition) (s : State) (command : Command) (waiting : List Waiting) → s.in_hand ≡ None
+  fits-alone : (edition : Edition) (s : State) (command : Command) (waiting : List Waiting) → s.under_way ≡ None
       → Fits edition sectors image s
       → Fits edition sectors image (state_taking_alone s command waiting)
   fits-alone edition s command [] free fits = fits-taking edition s command free fits
   fits-alone edition s command (first ∷ rest) free fits = fits
 
   -- and while a command is kept
-  pub fits-commanding : (edition : Edition) (s : State) (command : Command) → s.in_hand ≡ None
+  pub fits-commanding : (edition : Edition) (s : State) (command : Command) → s.under_way ≡ None
       → Fits edition sectors image s
       → Fits edition sectors image (state_during s (Commands command))
   fits-commanding edition s command free fits = fits-alone edition s command s.waiting free fits

@@ -51,7 +51,7 @@ use Rattle.macs_endpoint.specs.declared.fault.Stopped.{Stopped as StoppedFault}
 use Rattle.macs_endpoint.proofs.Alone.{alone-call}
 use Rattle.macs_endpoint.proofs.Carrying.{NextRises, SeenRises, rx-carried, tx-carried}
 use Rattle.macs_endpoint.proofs.Fitting.{kept-ahead}
-use Rattle.macs_endpoint.proofs.InHand.{kept-backed}
+use Rattle.macs_endpoint.proofs.Working.{kept-backed}
 
 -- ---- a few words on options and tests
 

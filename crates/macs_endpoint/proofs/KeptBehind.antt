@@ -19,7 +19,7 @@ use Rattle.macs_endpoint.specs.Limits.{IsLimited, IsStill}
 use Rattle.macs_endpoint.specs.Reserving.{FitsState, ReservationEnds}
 use Rattle.macs_endpoint.specs.Restart.{FitsCall}
 use Rattle.macs_endpoint.specs.RefillCosts.{reserved_in}
-use Rattle.macs_endpoint.specs.State.{Commands, Logs, Ran, State, no_logs, state_with_in_hand}
+use Rattle.macs_endpoint.specs.State.{Commands, Logs, Ran, State, no_logs, state_with_under_way}
 use Rattle.macs_endpoint.specs.Step.{Step}
 use Rattle.macs_endpoint.specs.Value.{EndpointValue, IsAtRest, IsBacked, IsKeeping, IsReserving, IsSoundEndpoint}
 use Rattle.macs_endpoint.specs.Value.{disk_in, is_stopped, state_of}
@@ -59,7 +59,7 @@ ok_standing s command (Err refusal) is = absurd cc
 -- what a device call cut short leaves is sound, with any command under way
 pub cut-short-kept : {D : Type 0} (mid : EndpointValue D) (command : Command) → IsSoundEndpoint mid
     → is_stopped mid ≡ true
-    → IsSoundEndpoint (record mid { in_hand = Some command; turn = turn.Reservation })
+    → IsSoundEndpoint (record mid { under_way = Some command; turn = turn.Reservation })
 cut-short-kept {D} mid command kept stopped = record {
   identity = kept.identity;
   channels = kept.channels;
@@ -70,13 +70,13 @@ cut-short-kept {D} mid command kept stopped = record {
 }
   where
     cut : EndpointValue D
-    cut = record mid { in_hand = Some command; turn = turn.Reservation }
+    cut = record mid { under_way = Some command; turn = turn.Reservation }
 
     by : IsAtRest mid ⊎ (IsReserving mid ⊎ IsKeeping mid) → IsAtRest cut ⊎ (IsReserving cut ⊎ IsKeeping cut)
     by (inl rest) = inl (record {
       store = rest.store;
       reserving = rest.reserving;
-      in_hand =
+      under_way =
           λ going. absurd (not_stopped (is_stopped mid) stopped going);
     })
     by (inr (inl work)) = absurd (not_stopped (is_stopped mid) stopped work.running)
@@ -85,17 +85,17 @@ cut-short-kept {D} mid command kept stopped = record {
 -- ---- a command after it
 
 module _ {D : Type 0} (disk_of : D → disk.Disk) (e : EndpointValue D) (command : Command) (ranges : IsCommand command)
-    (running : is_stopped e ≡ false) (none : e.waiting ≡ []) (free : e.in_hand ≡ None)
+    (running : is_stopped e ≡ false) (none : e.waiting ≡ []) (free : e.under_way ≡ None)
     (accepted : IsOk (accept (standing_in e.store) command)) where
   module _ (mid : EndpointValue D) (ends : ReservationEnds disk_of e (Err refill.Disk) mid) where
     abbrev pub given_up : EndpointValue D
-    given_up = record mid { in_hand = Some command; turn = turn.Reservation }
+    given_up = record mid { under_way = Some command; turn = turn.Reservation }
 
     pub stopped : is_stopped mid ≡ true
     stopped = ap (λ (s : State). s.stopped) (ends.reserves.step no_logs)
 
-    hand : (logs : Logs) → (state_of mid logs).in_hand ≡ None
-    hand logs = ap (λ (s : State). s.in_hand) (ends.reserves.step logs) ∙ free
+    under_way : (logs : Logs) → (state_of mid logs).under_way ≡ None
+    under_way logs = ap (λ (s : State). s.under_way) (ends.reserves.step logs) ∙ free
 
     backed_so : IsBacked disk_of mid → IsBacked disk_of given_up
     backed_so backed = record {
@@ -103,7 +103,7 @@ module _ {D : Type 0} (disk_of : D → disk.Disk) (e : EndpointValue D) (command
       stored = λ going. absurd (not_stopped (is_stopped mid) stopped going);
       fits = λ logs image left.
           fits-holding (disk_in disk_of mid).sectors image backed.size this_edition (state_of mid logs) command
-          (hand logs) (backed.fits logs image left);
+          (under_way logs) (backed.fits logs image left);
       form = backed.form;
     }
 
@@ -120,7 +120,7 @@ module _ {D : Type 0} (disk_of : D → disk.Disk) (e : EndpointValue D) (command
               step = λ logs. (
                 logs,
                 inr
-                    (running, (none, accepts, ap (λ (s : State). state_with_in_hand s command) (reserves.step logs))),
+                    (running, (none, accepts, ap (λ (s : State). state_with_under_way s command) (reserves.step logs))),
               );
               ceilings = inl ends.same;
               limited = tt;

@@ -1,5 +1,5 @@
 pub mod Fitting
-pub mod InHand
+pub mod Working
 mod Alone
 mod Carrying
 pub mod Framing

@@ -4,7 +4,7 @@ use Rattle.std.proofs.Common.{Ok, Err, refl, sym, ◌∙◌, ap, subst, arith}
 use Rattle.macs_config.specs.declared.command.Command.{Command}
 use Rattle.macs_disk.specs.Disk.{Disk}
 use Rattle.macs_store.specs.Value.{IsIdle, StoreValue, standing_in}
-use Rattle.macs_endpoint.specs.Advancing.{AdvancesAs, BeginsWith, GoesOn, Piece, ToRaise, piece_among, turn_after}
+use Rattle.macs_endpoint.specs.Advancing.{AdvancesAs, BeginsWith, GoesOn, Due, ToRaise, due_among, turn_after}
 use Rattle.macs_endpoint.specs.Calls.{AdvancesIn, IsCall}
 use Rattle.macs_endpoint.specs.Ceilings.{CeilingsAfter, Raise, first_raise}
 use Rattle.macs_endpoint.specs.WorkThroughCalls.{IsNotReserved, Needs, NoneReserved, commands_done, commands_in_reply}
@@ -31,13 +31,13 @@ use Rattle.macs_endpoint.specs.declared.queue.Waiting.{Waiting}
 use Rattle.macs_endpoint.specs.declared.turn.Turn.{Turn as Whose}
 use Rattle.macs_endpoint.specs.declared.turn.Turn.TheVariants as turn
 use Rattle.macs_endpoint.proofs.Alike.{alike-protect, alike-receive}
-use Rattle.macs_endpoint.proofs.Idled.{in_hand_or_not}
-use Rattle.macs_endpoint.proofs.InHand.{not_stopped}
+use Rattle.macs_endpoint.proofs.Idled.{under_way_or_not}
+use Rattle.macs_endpoint.proofs.Working.{not_stopped}
 
 -- a ceiling is being raised; or no command is under way, and where no work is, the turn is a reservation's
 abbrev IsReservations : {D : Type 0} → EndpointValue D → Type 0
 IsReservations e = ((raise : Raise) × (e.reserving ≡ Some raise))
-    ⊎ ((e.in_hand ≡ None) × (IsIdle e.store → e.turn ≡ turn.Reservation))
+    ⊎ ((e.under_way ≡ None) × (IsIdle e.store → e.turn ≡ turn.Reservation))
 
 -- no submitted command is done with before a reservation has its turn, or none is needed
 abbrev IsQuiet : {D : Type 0} → EndpointValue D → Type 0
@@ -45,7 +45,7 @@ IsQuiet e = (is_stopped e ≡ true) ⊎ (IsReservations e ⊎ (raise_in e ≡ No
 
 -- what is needed begins where the turn is a reservation's
 raises_by : (whose : Whose) (o : Option Raise) (w : Option Waiting) → whose ≡ turn.Reservation → o ≢ None
-    → (raise : Raise) × (piece_among whose o w ≡ Some (ToRaise raise))
+    → (raise : Raise) × (due_among whose o w ≡ Some (ToRaise raise))
 raises_by whose None w is some = absurd (some refl)
 raises_by whose (Some raise) None is some = (raise, refl)
 raises_by turn.Reservation (Some raise) (Some first) is some = (raise, refl)
@@ -65,10 +65,10 @@ stopped_none call reply stopped = absurd stopped
 -- a command that is done with is no longer under way
 done_free : (s : State) (first : Waiting) (rest : List Waiting) (result : Result (Unit {0}) CommandFault) (t : State)
     → Ends s first rest result t
-    → t.in_hand ≡ None
-done_free s first rest (Ok done) t (config, is, made) = ap (λ (x : State). x.in_hand) made
-done_free s first rest (Err (ran.Refused refusal)) t (free, is, made) = ap (λ (x : State). x.in_hand) made
-done_free s first rest (Err ran.GenerationsSpent) t (free, is, made) = ap (λ (x : State). x.in_hand) made
+    → t.under_way ≡ None
+done_free s first rest (Ok done) t (config, is, made) = ap (λ (x : State). x.under_way) made
+done_free s first rest (Err (ran.Refused refusal)) t (free, is, made) = ap (λ (x : State). x.under_way) made
+done_free s first rest (Err ran.GenerationsSpent) t (free, is, made) = ap (λ (x : State). x.under_way) made
 done_free s first rest (Err ran.Stopped) t ends = absurd ends
 done_free s first rest (Err ran.Busy) t ends = absurd ends
 done_free s first rest (Err ran.Disk) t ends = absurd ends
@@ -127,13 +127,13 @@ module _ {D : Type 0} (disk_of : D → Disk) (old new : EndpointValue D) where
   module _ (kept : IsSoundEndpoint old) (needed : raise_in old ≢ None) (reservations : IsReservations old) where
     -- no command is under way, and where no work is the turn is a reservation's
     free_by : IsReservations old → IsAtRest old ⊎ (IsReserving old ⊎ IsKeeping old)
-        → (old.in_hand ≡ None) × (IsIdle old.store → old.turn ≡ turn.Reservation)
+        → (old.under_way ≡ None) × (IsIdle old.store → old.turn ≡ turn.Reservation)
     free_by (inr free) work = free
     free_by (inl (raise, is)) (inl rest) = absurd (let none = sym is ∙ rest.reserving in cc)
-    free_by (inl (raise, is)) (inr (inl work)) = (work.in_hand, λ idle. absurd (work.busy idle))
+    free_by (inl (raise, is)) (inr (inl work)) = (work.under_way, λ idle. absurd (work.busy idle))
     free_by (inl (raise, is)) (inr (inr work)) = absurd (let none = sym is ∙ work.reserving in cc)
 
-    free : (old.in_hand ≡ None) × (IsIdle old.store → old.turn ≡ turn.Reservation)
+    free : (old.under_way ≡ None) × (IsIdle old.store → old.turn ≡ turn.Reservation)
     free = free_by reservations kept.work
 
     -- no command is done with, and a reservation still comes next
@@ -141,20 +141,20 @@ module _ {D : Type 0} (disk_of : D → Disk) (old new : EndpointValue D) where
     IsStillQuiet reply = (commands_in_reply reply ≡ 0) × IsQuiet new
 
     -- nothing changes but what waits, and packet numbers
-    stays : (reply : Reply) → commands_in_reply reply ≡ 0 → new.in_hand ≡ old.in_hand → new.store ≡ old.store
+    stays : (reply : Reply) → commands_in_reply reply ≡ 0 → new.under_way ≡ old.under_way → new.store ≡ old.store
         → new.turn ≡ old.turn → IsStillQuiet reply
-    stays reply none in_hand store whose = (
+    stays reply none under_way store whose = (
       none,
       inr (inl (inr (
-        in_hand ∙ free.0,
-        λ idle. whose ∙ free.1 (sym (ap (λ (x : StoreValue D). x.hand) store) ∙ idle),
+        under_way ∙ free.0,
+        λ idle. whose ∙ free.1 (sym (ap (λ (x : StoreValue D). x.under_way) store) ∙ idle),
       ))),
     )
 
     -- the turn is a reservation's, and no command is under way
-    turns_to : (reply : Reply) → commands_in_reply reply ≡ 0 → new.in_hand ≡ None → new.turn ≡ turn.Reservation
+    turns_to : (reply : Reply) → commands_in_reply reply ≡ 0 → new.under_way ≡ None → new.turn ≡ turn.Reservation
         → IsStillQuiet reply
-    turns_to reply none in_hand whose = (none, inr (inl (inr (in_hand, λ idle. whose))))
+    turns_to reply none under_way whose = (none, inr (inl (inr (under_way, λ idle. whose))))
 
     stops : (reply : Reply) → commands_in_reply reply ≡ 0 → is_stopped new ≡ true → IsStillQuiet reply
     stops reply none stopped = (none, inl stopped)
@@ -168,7 +168,7 @@ module _ {D : Type 0} (disk_of : D → Disk) (old new : EndpointValue D) where
 
       keeps : (reply : Reply) → commands_in_reply reply ≡ 0 → new.store ≡ old.store → new.turn ≡ old.turn → v ≡ u
           → IsStillQuiet reply
-      keeps reply none store whose is = stays reply none (ap (λ (x : State). x.in_hand) is) store whose
+      keeps reply none store whose is = stays reply none (ap (λ (x : State). x.under_way) is) store whose
 
       -- ---- a step
 
@@ -176,9 +176,9 @@ module _ {D : Type 0} (disk_of : D → Disk) (old new : EndpointValue D) where
           → (raise : Raise) × BeginsWith old (Some (ToRaise raise)) result new
       begins result idle does =
           let next = raises_by old.turn (raise_in old) (first_waiting old.waiting) (free.1 idle) needed in
-          (next.0, subst (λ (piece : Option Piece). BeginsWith old piece result new) next.1 (does.begins idle))
+          (next.0, subst (λ (due : Option Due). BeginsWith old due result new) next.1 (does.begins idle))
 
-      none_kept : (command : Command) → old.in_hand ≡ Some command → ⊥
+      none_kept : (command : Command) → old.under_way ≡ Some command → ⊥
       none_kept command is = let none = sym free.0 ∙ is in cc
 
       goes_on : (ticket : ℕ) (result : Result (Unit {0}) CommandFault) → GoesOn old (Ok (Done ticket result)) new → ⊥
@@ -188,17 +188,17 @@ module _ {D : Type 0} (disk_of : D → Disk) (old new : EndpointValue D) where
       advance : (result : Result Progress StepFault) → AdvanceStep u result v → AdvancesAs disk_of old result new
           → IsNotReserved (Advanced result)
           → IsStillQuiet (Advanced result)
-      advance (Ok Idle) moves does calm = elim (in_hand_or_not old.store.hand) [
+      advance (Ok Idle) moves does calm = elim (under_way_or_not old.store.under_way) [
         | inl idle ↦ absurd (begins (Ok Idle) idle does).1
         | inr busy ↦ absurd (does.goes_on busy)
       ]
-      advance (Ok Worked) moves does calm = elim (in_hand_or_not old.store.hand) [
+      advance (Ok Worked) moves does calm = elim (under_way_or_not old.store.under_way) [
         | inl idle ↦ let began = begins (Ok Worked) idle does in (refl, inr (inl (inl (began.0, began.1.0))))
         | inr busy ↦ let goes = does.goes_on busy in
             (refl, inr (inl (inr (goes.1 ∙ free.0, λ idle. absurd (goes.2 idle)))))
       ]
       advance (Ok Reserved) moves does calm = absurd calm
-      advance (Ok (Done ticket result)) moves does calm = elim (in_hand_or_not old.store.hand) [
+      advance (Ok (Done ticket result)) moves does calm = elim (under_way_or_not old.store.under_way) [
         | inl idle ↦ absurd (begins (Ok (Done ticket result)) idle does).1
         | inr busy ↦ absurd (goes_on ticket result (does.goes_on busy))
       ]
@@ -215,7 +215,7 @@ module _ {D : Type 0} (disk_of : D → Disk) (old new : EndpointValue D) where
           → new.store ≡ old.store → new.turn ≡ old.turn
           → IsStillQuiet (Submitted result)
       submits command (Ok ticket) moves store whose =
-          stays (Submitted (Ok ticket)) refl (ap (λ (x : State). x.in_hand) moves.3) store whose
+          stays (Submitted (Ok ticket)) refl (ap (λ (x : State). x.under_way) moves.3) store whose
       submits command (Err submit.QueueFull) moves store whose =
           keeps (Submitted (Err submit.QueueFull)) refl store whose moves.1
       submits command (Err submit.TicketsSpent) moves store whose =
@@ -234,14 +234,14 @@ module _ {D : Type 0} (disk_of : D → Disk) (old new : EndpointValue D) where
           → new.turn ≡ turn_after old call reply
           → IsNotReserved reply → IsStillQuiet reply
       runs (Commands command) (Ran (Ok done)) run (none, (config, is, made)) still does stands whose calm =
-          turns_to (Ran (Ok done)) refl (ap (λ (x : State). x.in_hand) made) whose
+          turns_to (Ran (Ok done)) refl (ap (λ (x : State). x.under_way) made) whose
       runs (Commands command) (Ran (Err ran.Stopped)) run moves still does stands whose calm = absurd moves
       runs (Commands command) (Ran (Err ran.Busy)) run moves still does stands whose calm =
           keeps (Ran (Err ran.Busy)) refl still whose moves.1
       runs (Commands command) (Ran (Err (ran.Refused refusal))) run moves still does stands whose calm =
-          turns_to (Ran (Err (ran.Refused refusal))) refl (ap (λ (x : State). x.in_hand) moves.2 ∙ free.0) whose
+          turns_to (Ran (Err (ran.Refused refusal))) refl (ap (λ (x : State). x.under_way) moves.2 ∙ free.0) whose
       runs (Commands command) (Ran (Err ran.GenerationsSpent)) run moves still does stands whose calm =
-          turns_to (Ran (Err ran.GenerationsSpent)) refl (ap (λ (x : State). x.in_hand) moves.2 ∙ free.0) whose
+          turns_to (Ran (Err ran.GenerationsSpent)) refl (ap (λ (x : State). x.under_way) moves.2 ∙ free.0) whose
       runs (Commands command) (Ran (Err ran.Disk)) run moves still does stands whose calm =
           stops (Ran (Err ran.Disk)) refl (ap (λ (x : State). x.stopped) moves.2)
       runs Refills (Refilled (Ok done)) run moves still does stands whose calm =

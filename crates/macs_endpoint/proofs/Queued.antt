@@ -18,7 +18,7 @@ use Rattle.macs_endpoint.specs.declared.fault.SubmitFault.TheVariants as submit
 use Rattle.macs_endpoint.specs.declared.queue.Waiting.{Waiting}
 use Rattle.macs_endpoint.proofs.Alone.{alone-call}
 use Rattle.macs_endpoint.proofs.Ended.{kept-held}
-use Rattle.macs_endpoint.proofs.InHand.{kept-backed}
+use Rattle.macs_endpoint.proofs.Working.{kept-backed}
 
 -- one command more
 one_more : (waiting : List Waiting) (ticket : ℕ) (command : Command) → length waiting < queue_length
@@ -71,13 +71,13 @@ module _ {D : Type 0} (disk_of : D → disk.Disk) (e : EndpointValue D) (command
   more_work : (ticket : ℕ) → IsAtRest e ⊎ (IsReserving e ⊎ IsKeeping e)
       → let more : QueueValue = record { waiting = with_waiting e.waiting ticket command; given = ticket } in
       IsAtRest (queued more) ⊎ (IsReserving (queued more) ⊎ IsKeeping (queued more))
-  more_work ticket (inl rest) = inl (record { store = rest.store; reserving = rest.reserving; in_hand = rest.in_hand })
+  more_work ticket (inl rest) = inl (record { store = rest.store; reserving = rest.reserving; under_way = rest.under_way })
   more_work ticket (inr (inl work)) = inr (inl (record {
     running = work.running;
     busy = work.busy;
     raise = work.raise;
     reserving = work.reserving;
-    in_hand = work.in_hand;
+    under_way = work.under_way;
     leads = work.leads;
     within = work.within;
   }))
@@ -88,7 +88,7 @@ module _ {D : Type 0} (disk_of : D → disk.Disk) (e : EndpointValue D) (command
     first = work.first;
     rest = with_waiting work.rest ticket command;
     waiting = ap (λ (w : List Waiting). with_waiting w ticket command) work.waiting;
-    in_hand = work.in_hand;
+    under_way = work.under_way;
     in_range = work.in_range;
     after = work.after;
     leads = work.leads;

@@ -245,7 +245,7 @@ module _ {D : Type 0} (disk_of : D → disk.Disk) where
         → HaveRaised disk_of old new.store
     turn-raised raise first made = raised-more disk_of old mid new has raise (first_before (Some raise) first) made
 
-    -- of an endpoint that needs none, or whose journal cannot start over
+    -- of an endpoint that needs none, or whose journal cannot be compacted
     pub turn-moves : (free : (raise_in old ≡ None) ⊎ IsSpent old.store)
         → ((raise_in old ≡ None) ⊎ IsSpent old.store → mid ≡ old) → (raise : Raise)
         → raise_in mid ≡ Some raise → Raised disk_of mid raise (Ok tt) new → ⊥

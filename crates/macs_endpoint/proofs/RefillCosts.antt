@@ -9,7 +9,7 @@ use Rattle.macs_store.specs.Standing.{Standing}
 use Rattle.macs_store.specs.Value.{IsIdle, StoreValue, calls_left, calls_with, generation, generation_then}
 use Rattle.macs_store.specs.Value.{generation_with, slots_then, slots_with, standing_in, used_slots}
 use Rattle.macs_store.specs.Value as store
-use Rattle.macs_store.specs.Kept.{Change}
+use Rattle.macs_store.specs.UnderWay.{UnderWay}
 use Rattle.macs_endpoint.specs.Ceilings.{Raise, Raises, first_raise, standing_with_raise, standing_with_reserved}
 use Rattle.macs_endpoint.specs.Reserving.{Raised, ReservationEnds}
 use Rattle.macs_endpoint.specs.RefillCosts.{HasRaised, RaisesBehind, Spends, generation_in_raises, most_behind}
@@ -70,8 +70,8 @@ module _ {D : Type 0} (disk_of : D → Disk) where
       [],
       record {
         raised = sym same_reserved;
-        slots = sym (ap (λ (h : Change). slots_with old.store h) idle);
-        generation = sym (ap (λ (h : Change). generation_with old.store h) idle);
+        slots = sym (ap (λ (h : UnderWay). slots_with old.store h) idle);
+        generation = sym (ap (λ (h : UnderWay). generation_with old.store h) idle);
         most = omega arith;
         still = λ rests is. refl;
       },
@@ -161,13 +161,13 @@ module _ {D : Type 0} (disk_of : D → Disk) where
     behind-reserved = ap (λ (o : Option Raise). standing_with_reserved (standing_in mid.store) o) ends.free ∙ ends.done
 
     pub behind-slots : slots_then mid.store ≡ slots_then old.store
-    behind-slots = ap (λ (h : Change). slots_with mid.store h) ends.reserves.idle ∙ ends.slots
+    behind-slots = ap (λ (h : UnderWay). slots_with mid.store h) ends.reserves.idle ∙ ends.slots
 
     pub behind-generation : generation_then mid.store ≡ generation_then old.store
-    behind-generation = ap (λ (h : Change). generation_with mid.store h) ends.reserves.idle ∙ ends.generation
+    behind-generation = ap (λ (h : UnderWay). generation_with mid.store h) ends.reserves.idle ∙ ends.generation
 
     pub behind-left : calls_left mid.store ≡ 0
-    behind-left = ap (λ (h : Change). calls_with mid.store h) ends.reserves.idle
+    behind-left = ap (λ (h : UnderWay). calls_with mid.store h) ends.reserves.idle
 
     behind_most : (raises : List Raise) (late : ℕ)
         → late ≤ (store.disk_in disk_of mid.store).clock + most_behind mid raises

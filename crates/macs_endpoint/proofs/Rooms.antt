@@ -52,7 +52,7 @@ use Rattle.macs_endpoint.proofs.Changes.{next_after_made, no-answer, stands-keep
 use Rattle.macs_endpoint.proofs.Fitting.{accept-parts, kept-ahead}
 use Rattle.macs_endpoint.proofs.Framing.{five_others, not_exhausted}
 use Rattle.macs_endpoint.proofs.Idled.{idle-step}
-use Rattle.macs_endpoint.proofs.InHand.{at-rest}
+use Rattle.macs_endpoint.proofs.Working.{at-rest}
 use Rattle.macs_endpoint.proofs.Raises.{no-first, raises-ahead, raises-parts}
 use Rattle.macs_endpoint.proofs.Work.{IsHigher, first-higher, reserved-ahead, reserved-higher, reserved-parts}
 

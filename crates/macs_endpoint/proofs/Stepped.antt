@@ -46,7 +46,7 @@ use Rattle.macs_endpoint.proofs.Ended.{kept-held, not_stopped, raised-backed, ra
 use Rattle.macs_endpoint.proofs.Ended.{step-cut, step-done}
 use Rattle.macs_endpoint.proofs.Fitting.{AreAhead, accept-parts, ahead-within, command-ahead, fits-advancing}
 use Rattle.macs_endpoint.proofs.Fitting.{kept-ahead}
-use Rattle.macs_endpoint.proofs.InHand.{cut-backed, fits-moments, kept-backed, leads-on}
+use Rattle.macs_endpoint.proofs.Working.{cut-backed, fits-moments, kept-backed, leads-on}
 use Rattle.macs_endpoint.proofs.Still.{still-on}
 
 -- ---- the call that a step is
@@ -113,7 +113,7 @@ module _ {D : Type 0} (disk_of : D → disk.Disk) (e : EndpointValue D) (kept : 
     busy = (steps.going refl).0;
     raise = work.raise;
     reserving = work.reserving;
-    in_hand = work.in_hand;
+    under_way = work.under_way;
     leads = (steps.going refl).1 ∙ work.leads
         ∙ ap (λ (x : Standing). Some (standing_with_raise x work.raise)) (sym on_same);
     within = subst (λ (x : Standing). IsRaiseWithin e.tx e.rx x.identity work.raise) (sym on_same) work.within;
@@ -125,7 +125,7 @@ module _ {D : Type 0} (disk_of : D → disk.Disk) (e : EndpointValue D) (kept : 
     first = work.first;
     rest = work.rest;
     waiting = work.waiting;
-    in_hand = work.in_hand;
+    under_way = work.under_way;
     in_range = work.in_range;
     after = work.after;
     leads = (steps.going refl).1 ∙ work.leads;
@@ -144,7 +144,7 @@ module _ {D : Type 0} (disk_of : D → disk.Disk) (e : EndpointValue D) (kept : 
     numbers = (rxsc.rx_side_of e.rx).numbers;
     logs = logs;
     stopped = (steps.running ∙ sym running) i;
-    in_hand = e.in_hand;
+    under_way = e.under_way;
     waiting = e.waiting;
     tickets = e.tickets;
   }
@@ -240,7 +240,7 @@ module _ {D : Type 0} (disk_of : D → disk.Disk) (e : EndpointValue D) (kept : 
         (next : (txsc.tx_side_of tx).next ≡ next_after first.command (txsc.tx_side_of e.tx).next)
         (numbers : (rxsc.rx_side_of rx).numbers ≡ numbers_after first.command (rxsc.rx_side_of e.rx).numbers) where
       abbrev followed : EndpointValue D
-      followed = record e { store = s; tx = tx; rx = rx; in_hand = None; waiting = rest; turn = turn.Reservation }
+      followed = record e { store = s; tx = tx; rx = rx; under_way = None; waiting = rest; turn = turn.Reservation }
 
       fewer : (length (first ∷ rest) ≤ queue_length) → length rest ≤ queue_length
       fewer few = omega (arith, few)
@@ -270,7 +270,7 @@ module _ {D : Type 0} (disk_of : D → disk.Disk) (e : EndpointValue D) (kept : 
             within = ahead-within tx rx (standing_in s) channels third;
             few = fewer (subst (λ (w : List Waiting). length w ≤ queue_length) waits kept.few);
             tickets = kept.tickets;
-            work = inl (record { store = done.idle; reserving = work.reserving; in_hand = λ going. refl });
+            work = inl (record { store = done.idle; reserving = work.reserving; under_way = λ going. refl });
           }
 
       pub followed-call : txsc.counters_of tx ≡ txsc.counters_of e.tx → rxsc.counters_of rx ≡ rxsc.counters_of e.rx
@@ -295,7 +295,7 @@ module _ {D : Type 0} (disk_of : D → disk.Disk) (e : EndpointValue D) (kept : 
                 numbers = numbers i;
                 logs = logs;
                 stopped = (done.running ∙ sym work.running) i;
-                in_hand = None;
+                under_way = None;
                 waiting = rest;
                 tickets = e.tickets;
               },
@@ -303,7 +303,7 @@ module _ {D : Type 0} (disk_of : D → disk.Disk) (e : EndpointValue D) (kept : 
           ))
           (subst (λ (w : List Waiting). StandsAfter (first_command w) (standing_in e.store) (standing_in s))
           (sym waits) follows)
-          ((work.first.command, work.in_hand), done.idle, steps.last refl) (steps.call work.busy) refl
+          ((work.first.command, work.under_way), done.idle, steps.last refl) (steps.call work.busy) refl
           tx_counters rx_counters
           (subst (λ (w : List Waiting). rxsc.channel_counters_of rx ≡ channel_counters_after_made (first_command w)
           (rxsc.channel_counters_of e.rx)) (sym waits) channel_counters)
@@ -328,7 +328,7 @@ module _ {D : Type 0} (disk_of : D → disk.Disk) (e : EndpointValue D) (kept : 
       (inl (record {
         store = cut.idle;
         reserving = work.reserving;
-        in_hand =
+        under_way =
             λ going. absurd (not_stopped (store.is_stopped s) cut.stopped going);
       }))
 
@@ -341,7 +341,7 @@ module _ {D : Type 0} (disk_of : D → disk.Disk) (e : EndpointValue D) (kept : 
     numbers = (rxsc.rx_side_of e.rx).numbers;
     logs = logs;
     stopped = cut.stopped i;
-    in_hand = e.in_hand;
+    under_way = e.under_way;
     waiting = e.waiting;
     tickets = e.tickets;
   }

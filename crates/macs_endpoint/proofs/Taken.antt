@@ -13,12 +13,12 @@ use Rattle.macs_txsc.specs.Value as txsc
 use Rattle.macs_rxsc.specs.Value as rxsc
 use Rattle.macs_store.specs.Keeps.{IsSpent, most_calls}
 use Rattle.macs_store.specs.Standing.{Standing}
-use Rattle.macs_store.specs.Stepping.{HasInHand}
+use Rattle.macs_store.specs.Stepping.{HasUnderWay}
 use Rattle.macs_store.specs.Table.{standing_of}
 use Rattle.macs_store.specs.Value.{IsIdle, calls_left, standing_in}
 use Rattle.macs_store.specs.Value as store
-use Rattle.macs_endpoint.specs.Advancing.{BeginsWith, ClockAfter, GoesOn, Piece, ToKeep, ToRaise, next_piece}
-use Rattle.macs_endpoint.specs.Advancing.{piece_among, turn_after_step}
+use Rattle.macs_endpoint.specs.Advancing.{BeginsWith, ClockAfter, GoesOn, Due, ToKeep, ToRaise, next_due}
+use Rattle.macs_endpoint.specs.Advancing.{due_among, turn_after_step}
 use Rattle.macs_endpoint.specs.Calls.{Fails, IsCall}
 use Rattle.macs_endpoint.specs.Ceilings.{Raise, StandsAdvanced, standing_with_raise}
 use Rattle.macs_endpoint.specs.Counting.{channel_counters_after}
@@ -36,36 +36,36 @@ use Rattle.macs_endpoint.specs.declared.turn.Turn.{Turn}
 use Rattle.macs_endpoint.specs.declared.turn.Turn.TheVariants as turn
 use Rattle.macs_endpoint.proofs.Alone.{alone-call}
 use Rattle.macs_endpoint.proofs.Ended.{begun-backed, begun-state, not_stopped}
-use Rattle.macs_endpoint.proofs.InHand.{at-rest}
+use Rattle.macs_endpoint.proofs.Working.{at-rest}
 use Rattle.macs_endpoint.proofs.Still.{still-on, still-same}
 
--- ---- which piece is next
+-- ---- what is due next
 
-raised_piece : (a b : Raise) → ToRaise a ≡ ToRaise b → Some a ≡ Some b
-raised_piece a b is = cc
+raised_due : (a b : Raise) → ToRaise a ≡ ToRaise b → Some a ≡ Some b
+raised_due a b is = cc
 
-taken_piece : (a b : Waiting) → ToKeep a ≡ ToKeep b → Some a ≡ Some b
-taken_piece a b is = cc
+taken_due : (a b : Waiting) → ToKeep a ≡ ToKeep b → Some a ≡ Some b
+taken_due a b is = cc
 
 pub raises-first : (whose : Turn) (o : Option Raise) (w : Option Waiting) (raise : Raise)
-    → piece_among whose o w ≡ Some (ToRaise raise) → o ≡ Some raise
+    → due_among whose o w ≡ Some (ToRaise raise) → o ≡ Some raise
 raises-first whose None None raise is = absurd cc
 raises-first whose (Some other) None raise is = let same : ToRaise other ≡ ToRaise raise = cc in
-    raised_piece other raise same
+    raised_due other raise same
 raises-first whose None (Some first) raise is = absurd cc
 raises-first turn.Reservation (Some other) (Some first) raise is = let same : ToRaise other ≡ ToRaise raise = cc in
-    raised_piece other raise same
+    raised_due other raise same
 raises-first turn.Command (Some other) (Some first) raise is = absurd cc
 
 pub takes-first : (whose : Turn) (o : Option Raise) (w : Option Waiting) (first : Waiting)
-    → piece_among whose o w ≡ Some (ToKeep first) → w ≡ Some first
+    → due_among whose o w ≡ Some (ToKeep first) → w ≡ Some first
 takes-first whose None None first is = absurd cc
 takes-first whose (Some raise) None first is = absurd cc
 takes-first whose None (Some other) first is = let same : ToKeep other ≡ ToKeep first = cc in
-    taken_piece other first same
+    taken_due other first same
 takes-first turn.Reservation (Some raise) (Some other) first is = absurd cc
 takes-first turn.Command (Some raise) (Some other) first is = let same : ToKeep other ≡ ToKeep first = cc in
-    taken_piece other first same
+    taken_due other first same
 
 -- ---- a change takes more than one call
 
@@ -79,7 +79,7 @@ some_calls s = most_by (store.used_slots s == slots) (store.snapshot_length s)
 -- so the one after the start is not the last
 pub many-calls : {D : Type 0} (disk_of : D → disk.Disk) (old : store.StoreValue D) (after : Standing)
     (new : store.StoreValue D)
-    → HasInHand disk_of old after new → calls_left new ≡ 1 → ⊥
+    → HasUnderWay disk_of old after new → calls_left new ≡ 1 → ⊥
 many-calls disk_of old after new has one = let most = has.left in let least = some_calls old in
     omega (arith, one, most, least)
 
@@ -87,10 +87,10 @@ many-calls disk_of old after new has one = let most = has.left in let least = so
 
 module _ {D : Type 0} (disk_of : D → disk.Disk) (e : EndpointValue D) (running : is_stopped e ≡ false)
     (idle : IsIdle e.store) (after : Standing)
-    (s : store.StoreValue D) (has : HasInHand disk_of e.store after s) (in_hand : Option Command)
+    (s : store.StoreValue D) (has : HasUnderWay disk_of e.store after s) (under_way : Option Command)
     (reserving : Option Raise) where
   abbrev pub taken : EndpointValue D
-  taken = record e { store = s; in_hand = in_hand; reserving = reserving }
+  taken = record e { store = s; under_way = under_way; reserving = reserving }
 
   taken_disk : disk_in disk_of taken ≡ disk_in disk_of e
   taken_disk = ap disk_of has.device
@@ -109,7 +109,7 @@ module _ {D : Type 0} (disk_of : D → disk.Disk) (e : EndpointValue D) (running
       → AdvanceStep (state_of e logs) result t)
       → StandsAdvanced (standing_in e.store) e.reserving
       (command_made (state_of e no_logs) Advances (Advanced result)) result (standing_in new.store)
-      → BeginsWith e (next_piece e) result new
+      → BeginsWith e (next_due e) result new
       → rxsc.channel_counters_of new.rx
       ≡ channel_counters_after (state_of e no_logs) Advances (Advanced result) (rxsc.channel_counters_of e.rx)
       → ((logs : Logs) (sectors : ℕ) (image : Image) → least_sectors ≤ sectors
@@ -163,9 +163,9 @@ module _ {D : Type 0} (disk_of : D → disk.Disk) (e : EndpointValue D) (running
 
 module _ {D : Type 0} (disk_of : D → disk.Disk) (e : EndpointValue D) (kept : IsSoundEndpoint e)
     (running : is_stopped e ≡ false) (idle : IsIdle e.store)
-    (raise : Raise) (first : raise_in e ≡ Some raise) (next : next_piece e ≡ Some (ToRaise raise))
+    (raise : Raise) (first : raise_in e ≡ Some raise) (next : next_due e ≡ Some (ToRaise raise))
     (s : store.StoreValue D)
-    (has : HasInHand disk_of e.store (standing_with_raise (standing_in e.store) raise) s) where
+    (has : HasUnderWay disk_of e.store (standing_with_raise (standing_in e.store) raise) s) where
   abbrev raising : EndpointValue D
   raising = record e { store = s; reserving = Some raise }
 
@@ -185,10 +185,10 @@ module _ {D : Type 0} (disk_of : D → disk.Disk) (e : EndpointValue D) (kept : 
       → IsCall disk_of e Advances (Advanced result) new
   raise_call result new call stands begins counted =
       let state = begun-state disk_of e kept running idle raise first s has in
-      taken-call disk_of e running idle (standing_with_raise (standing_in e.store) raise) s has e.in_hand (Some raise)
+      taken-call disk_of e running idle (standing_with_raise (standing_in e.store) raise) s has e.under_way (Some raise)
       result new call
       (λ logs t steps. subst (λ (x : State). AdvanceStep x result t) (state logs) steps) stands
-      (subst (λ (p : Option Piece). BeginsWith e p result new) (sym next) begins) counted
+      (subst (λ (p : Option Due). BeginsWith e p result new) (sym next) begins) counted
       (λ logs sectors image size fits.
       subst (λ (x : State). Fits this_edition sectors image (state_during x Advances)) (state logs) fits)
       (begun-backed disk_of e kept running idle raise first s has)
@@ -201,11 +201,11 @@ module _ {D : Type 0} (disk_of : D → disk.Disk) (e : EndpointValue D) (kept : 
         goes.0,
         (let left = goes.3 in let most = has.left in
             omega (arith, left, most)),
-        goes.1 ∙ (at-rest e kept idle).in_hand running,
+        goes.1 ∙ (at-rest e kept idle).under_way running,
       )
       call.behaves.channel_counters
   by_result (Err step.Disk) new call goes = raise_call (Err step.Disk) new call (call.behaves.ceilings ∙ same_standing)
-      (goes ∙ (at-rest e kept idle).in_hand running) call.behaves.channel_counters
+      (goes ∙ (at-rest e kept idle).under_way running) call.behaves.channel_counters
   by_result (Ok Idle) new call goes = absurd goes
   by_result (Ok Reserved) new call goes = absurd (many goes.2)
   by_result (Ok (Done ticket (Ok done))) new call goes = absurd (many goes.2)
@@ -234,7 +234,7 @@ module _ {D : Type 0} (disk_of : D → disk.Disk) (e : EndpointValue D) (running
       → Fails (disk_in disk_of e) (disk_in disk_of e) (Advanced result)
       → StandsAdvanced (standing_in e.store) e.reserving
       (command_made (state_of e no_logs) Advances (Advanced result)) result (standing_in e.store)
-      → BeginsWith e (next_piece e) result (record other { store = e.store })
+      → BeginsWith e (next_due e) result (record other { store = e.store })
       → other.turn ≡ turn_after_step e.turn result
       → other.tx ≡ e.tx → other.rx ≡ e.rx
       → rxsc.channel_counters_of other.rx
@@ -257,18 +257,18 @@ module _ {D : Type 0} (disk_of : D → disk.Disk) (e : EndpointValue D) (running
         channel_counters = counted;
       })
 
-  -- no piece of work is there
-  pub idle-call : next_piece e ≡ None → IsCall disk_of e Advances (Advanced (Ok Idle)) e
+  -- nothing is due
+  pub idle-call : next_due e ≡ None → IsCall disk_of e Advances (Advanced (Ok Idle)) e
   idle-call none = quiet (Ok Idle) e (λ logs. refl) refl refl
-      (subst (λ (p : Option Piece). BeginsWith e p (Ok Idle) e) (sym none) refl) refl refl refl refl
+      (subst (λ (p : Option Due). BeginsWith e p (Ok Idle) e) (sym none) refl) refl refl refl refl
       (clock-stays (disk_in disk_of e).clock) (λ backed. backed)
 
-  -- the journal cannot start over for a reservation
-  pub spent-call : (raise : Raise) → next_piece e ≡ Some (ToRaise raise) → IsSpent e.store
+  -- the journal cannot be compacted for a reservation
+  pub spent-call : (raise : Raise) → next_due e ≡ Some (ToRaise raise) → IsSpent e.store
       → IsCall disk_of e Advances (Advanced (Err step.GenerationsSpent)) (record e { turn = turn.Command })
   spent-call raise next spent =
       quiet (Err step.GenerationsSpent) (record e { turn = turn.Command }) (λ logs. refl) refl refl
-      (subst (λ (p : Option Piece). BeginsWith e p (Err step.GenerationsSpent) (record e { turn = turn.Command }))
+      (subst (λ (p : Option Due). BeginsWith e p (Err step.GenerationsSpent) (record e { turn = turn.Command }))
       (sym next) spent) refl refl refl refl
       (clock-stays (disk_in disk_of e).clock)
       (λ backed. record { size = backed.size; stored = backed.stored; fits = backed.fits; form = backed.form })

@@ -9,13 +9,13 @@ use Rattle.macs_journal.specs.Areas.{least_sectors}
 use Rattle.macs_txsc.specs.Value as txsc
 use Rattle.macs_rxsc.specs.Value as rxsc
 use Rattle.macs_store.specs.Standing.{Standing, accept, standing_or_refusal}
-use Rattle.macs_store.specs.Stepping.{HasInHand, StartsCommit}
+use Rattle.macs_store.specs.Stepping.{HasUnderWay, StartsCommit}
 use Rattle.macs_store.specs.Table.{standing_of}
 use Rattle.macs_store.specs.Value.{IsIdle, standing_in}
 use Rattle.macs_store.specs.Value as store
 use Rattle.macs_store.specs.declared.fault.CommitFault.{CommitFault}
 use Rattle.macs_store.specs.declared.fault.CommitFault.TheVariants as commit
-use Rattle.macs_endpoint.specs.Advancing.{BeginsWith, GoesOn, Piece, ToKeep, next_piece}
+use Rattle.macs_endpoint.specs.Advancing.{BeginsWith, GoesOn, Due, ToKeep, next_due}
 use Rattle.macs_endpoint.specs.Calls.{IsCall}
 use Rattle.macs_endpoint.specs.Ceilings.{StandsAdvanced}
 use Rattle.macs_endpoint.specs.Counting.{channel_counters_after}
@@ -23,7 +23,7 @@ use Rattle.macs_endpoint.specs.Faults.{command_fault_of}
 use Rattle.macs_endpoint.specs.Queue.{first_waiting, queue_length}
 use Rattle.macs_endpoint.specs.Restart.{Fits, state_taking_first}
 use Rattle.macs_endpoint.specs.State.{Accepts, Advanced, Advances, Logs, State, command_made, no_logs}
-use Rattle.macs_endpoint.specs.State.{state_with_in_hand}
+use Rattle.macs_endpoint.specs.State.{state_with_under_way}
 use Rattle.macs_endpoint.specs.Step.{AdvanceStep, Ends, TakesUp, state_without_first}
 use Rattle.macs_endpoint.specs.Value.{EndpointValue, IsAtRest, IsBacked, IsKeeping, IsSoundEndpoint, disk_in}
 use Rattle.macs_endpoint.specs.Value.{is_stopped, state_of}
@@ -36,7 +36,7 @@ use Rattle.macs_endpoint.specs.declared.progress.Step.TheVariants.{Done, Idle, R
 use Rattle.macs_endpoint.specs.declared.queue.Waiting.{Waiting}
 use Rattle.macs_endpoint.specs.declared.turn.Turn.TheVariants as turn
 use Rattle.macs_endpoint.proofs.Ended.{kept-held, not_stopped}
-use Rattle.macs_endpoint.proofs.InHand.{at-rest, kept-backed, some_is}
+use Rattle.macs_endpoint.proofs.Working.{at-rest, kept-backed, some_is}
 use Rattle.macs_endpoint.proofs.Taken.{clock-stays, many-calls, quiet, taken-call}
 
 -- ---- which command is the first
@@ -67,15 +67,15 @@ accepted_by s command (Ok config) is = refl
 accepted_by s command (Err refusal) is = absurd cc
 
 taken_by : (s : State) (command : Command) (stopped accepts : Bool) → stopped ≡ false → accepts ≡ true
-    → (if not stopped && accepts then state_with_in_hand s command else s) ≡ state_with_in_hand s command
-taken_by s command stopped accepts running is = λ i. if not (running i) && is i then state_with_in_hand s command else s
+    → (if not stopped && accepts then state_with_under_way s command else s) ≡ state_with_under_way s command
+taken_by s command stopped accepts running is = λ i. if not (running i) && is i then state_with_under_way s command else s
 
 -- the first command is under way while it is taken up
-during_taken : (s : State) (in_hand : Option Command) (waiting : List Waiting) (first : Waiting) (rest : List Waiting)
-    → in_hand ≡ None
+during_taken : (s : State) (under_way : Option Command) (waiting : List Waiting) (first : Waiting) (rest : List Waiting)
+    → under_way ≡ None
     → waiting ≡ first ∷ rest → s.stopped ≡ false → is_ok (apply s.edition s.identity s.config first.command) ≡ true
-    → state_taking_first s in_hand waiting ≡ state_with_in_hand s first.command
-during_taken s in_hand waiting first rest free waits running accepts =
+    → state_taking_first s under_way waiting ≡ state_with_under_way s first.command
+during_taken s under_way waiting first rest free waits running accepts =
     (λ i. state_taking_first s (free i) (waits i))
     ∙ taken_by s first.command s.stopped (is_ok (apply s.edition s.identity s.config first.command)) running accepts
 
@@ -101,10 +101,10 @@ module _ {D : Type 0} (disk_of : D → disk.Disk) (e : EndpointValue D) (kept : 
   resting = at-rest e kept idle
 
   module _ (s : store.StoreValue D) (after : Standing) (accepted : accept old first.command ≡ Ok after)
-      (has : HasInHand disk_of e.store after s) where
+      (has : HasUnderWay disk_of e.store after s) where
     -- the endpoint with the command under way
     abbrev keeping : EndpointValue D
-    keeping = record e { store = s; in_hand = Some first.command }
+    keeping = record e { store = s; under_way = Some first.command }
 
     same_standing : standing_in s ≡ standing_in e.store
     same_standing = ap standing_of has.standing
@@ -118,7 +118,7 @@ module _ {D : Type 0} (disk_of : D → disk.Disk) (e : EndpointValue D) (kept : 
       first = first;
       rest = rest;
       waiting = waiting_is;
-      in_hand = refl;
+      under_way = refl;
       in_range = ranges;
       after = after;
       leads = has.leads;
@@ -132,7 +132,7 @@ module _ {D : Type 0} (disk_of : D → disk.Disk) (e : EndpointValue D) (kept : 
     accepts : Accepts (state_of e no_logs) first.command
     accepts = accepted_by old first.command judged (ap is_ok accepted)
 
-    taken_state : (logs : Logs) → state_of keeping logs ≡ state_with_in_hand (state_of e logs) first.command
+    taken_state : (logs : Logs) → state_of keeping logs ≡ state_with_under_way (state_of e logs) first.command
     taken_state logs = λ i. record {
       edition = this_edition;
       identity = (same_standing i).identity;
@@ -141,7 +141,7 @@ module _ {D : Type 0} (disk_of : D → disk.Disk) (e : EndpointValue D) (kept : 
       numbers = (rxsc.rx_side_of e.rx).numbers;
       logs = logs;
       stopped = (has.running ∙ sym running) i;
-      in_hand = Some first.command;
+      under_way = Some first.command;
       waiting = e.waiting;
       tickets = e.tickets;
     }
@@ -154,7 +154,7 @@ module _ {D : Type 0} (disk_of : D → disk.Disk) (e : EndpointValue D) (kept : 
 
     -- one step takes it up
     takes : (logs : Logs) (t : State) → t ≡ state_of keeping logs → TakesUp (state_of e logs) t
-    takes logs t is = (first, rest, waiting_is, resting.in_hand running, accepts, is ∙ taken_state logs)
+    takes logs t is = (first, rest, waiting_is, resting.under_way running, accepts, is ∙ taken_state logs)
 
     -- and no further command is taken
     none_more : (logs : Logs) (t : State) → TakesUp (state_of keeping logs) t → ⊥
@@ -170,18 +170,18 @@ module _ {D : Type 0} (disk_of : D → disk.Disk) (e : EndpointValue D) (kept : 
         → BeginsWith e (Some (ToKeep first)) result new
         → rxsc.channel_counters_of new.rx
         ≡ channel_counters_after (state_of e no_logs) Advances (Advanced result) (rxsc.channel_counters_of e.rx)
-        → next_piece e ≡ Some (ToKeep first) → IsCall disk_of e Advances (Advanced result) new
+        → next_due e ≡ Some (ToKeep first) → IsCall disk_of e Advances (Advanced result) new
     take_call result new call leads stands begins counted next =
         taken-call disk_of e running idle after s has (Some first.command) e.reserving result new call leads stands
-        (subst (λ (p : Option Piece). BeginsWith e p result new) (sym next) begins) counted
+        (subst (λ (p : Option Due). BeginsWith e p result new) (sym next) begins) counted
         (λ logs sectors image size fits. subst (λ (x : State). Fits this_edition sectors image x)
-        (taken_state logs ∙ sym (during_taken (state_of e logs) e.in_hand e.waiting first rest (resting.in_hand running)
+        (taken_state logs ∙ sym (during_taken (state_of e logs) e.under_way e.waiting first rest (resting.under_way running)
         waiting_is running accepts)) fits)
         taken_backed
 
     by_result : (result : Result Progress StepFault) (new : EndpointValue D)
         → IsCall disk_of keeping Advances (Advanced result) new
-        → GoesOn keeping result new → next_piece e ≡ Some (ToKeep first)
+        → GoesOn keeping result new → next_due e ≡ Some (ToKeep first)
         → IsCall disk_of e Advances (Advanced result) new
     by_result (Ok Worked) new call goes next =
         take_call (Ok Worked) new call
@@ -211,7 +211,7 @@ module _ {D : Type 0} (disk_of : D → disk.Disk) (e : EndpointValue D) (kept : 
 
     -- the command begins, with its first device call
     pub keep-begins : (mid new : EndpointValue D) (result : Result Progress StepFault) → mid ≡ keeping
-        → next_piece e ≡ Some (ToKeep first)
+        → next_due e ≡ Some (ToKeep first)
         → IsCall disk_of mid Advances (Advanced result) new → IsCall disk_of e Advances (Advanced result) new
     keep-begins mid new result same next call =
         let made = subst (λ (x : EndpointValue D). IsCall disk_of x Advances (Advanced result) new) same call in
@@ -230,36 +230,36 @@ module _ {D : Type 0} (disk_of : D → disk.Disk) (e : EndpointValue D) (kept : 
     pub without-kept : IsSoundEndpoint without
     without-kept = kept-held e without kept refl
         (fewer (subst (λ (w : List Waiting). length w ≤ queue_length) popped kept.few)) kept.tickets
-        (inl (record { store = resting.store; reserving = resting.reserving; in_hand = resting.in_hand }))
+        (inl (record { store = resting.store; reserving = resting.reserving; under_way = resting.under_way }))
 
     without_backed : IsBacked disk_of e → IsBacked disk_of without
     without_backed backed = kept-backed without without-kept disk_of backed.size (backed.stored running)
 
     left_state : (logs : Logs) → state_of without logs ≡ state_without_first (state_of e logs) others
-    left_state logs = λ i. record (state_of without logs) { in_hand = resting.in_hand running i }
+    left_state logs = λ i. record (state_of without logs) { under_way = resting.under_way running i }
 
     -- it is done with, and nothing else changes
     refused_call : (at : CommandFault)
         → ((logs : Logs) → Ends (state_of e logs) first others (Err at) (state_of without logs))
         → BeginsWith e (Some (ToKeep first)) (Ok (Done first.ticket (Err at))) without
-        → next_piece e ≡ Some (ToKeep first)
+        → next_due e ≡ Some (ToKeep first)
         → IsCall disk_of e Advances (Advanced (Ok (Done first.ticket (Err at)))) without
     refused_call at ends begins next =
         quiet disk_of e running idle (Ok (Done first.ticket (Err at))) without
         (λ logs. (first, others, popped, refl, ends logs)) refl refl
-        (subst (λ (p : Option Piece). BeginsWith e p (Ok (Done first.ticket (Err at))) without) (sym next) begins) refl
+        (subst (λ (p : Option Due). BeginsWith e p (Ok (Done first.ticket (Err at))) without) (sym next) begins) refl
         refl refl refl
         (clock-stays (disk_in disk_of e).clock) without_backed
 
     by_fault : (at : CommitFault) (s : store.StoreValue D) → StartsCommit disk_of e.store first.command (Err at) s
-        → next_piece e ≡ Some (ToKeep first)
+        → next_due e ≡ Some (ToKeep first)
         → IsCall disk_of e Advances (Advanced (Ok (Done first.ticket (Err (command_fault_of at))))) without
     by_fault commit.Stopped s starts next = absurd (not_stopped (is_stopped e) (starts.stopped.0 refl) running)
     by_fault commit.Disk s starts next = absurd (starts.names refl)
     by_fault (commit.Refused refusal) s starts next =
         refused_call (ran.Refused refusal)
         (λ logs. (
-          resting.in_hand running,
+          resting.under_way running,
           refused_by old first.command judged (Named refusal)
               ((starts.refused refusal).0 refl).1,
           left_state logs,
@@ -267,7 +267,7 @@ module _ {D : Type 0} (disk_of : D → disk.Disk) (e : EndpointValue D) (kept : 
     by_fault commit.GenerationsSpent s starts next =
         let spent = starts.spent.0 refl in
         refused_call ran.GenerationsSpent (λ logs.
-        (resting.in_hand running, accepted_by old first.command judged spent.0, left_state logs)) spent.1 next
+        (resting.under_way running, accepted_by old first.command judged spent.0, left_state logs)) spent.1 next
 
     -- the same, where endpoint and fault are named otherwise
     told_so : (at told : CommandFault) → told ≡ at → (x : EndpointValue D) → x ≡ e → (tickets : ℕ) → tickets ≡ x.tickets
@@ -286,7 +286,7 @@ module _ {D : Type 0} (disk_of : D → disk.Disk) (e : EndpointValue D) (kept : 
     -- the store refuses it, and the reason is reported
     pub refused-ends : (at : CommitFault) (s : store.StoreValue D)
         → StartsCommit disk_of e.store first.command (Err at) s
-        → next_piece e ≡ Some (ToKeep first) → (told : CommandFault) → told ≡ command_fault_of at
+        → next_due e ≡ Some (ToKeep first) → (told : CommandFault) → told ≡ command_fault_of at
         → (x : EndpointValue D) → x ≡ e → (tickets : ℕ) → tickets ≡ x.tickets
         → IsCall disk_of e Advances (Advanced (Ok (Done first.ticket (Err told))))
         (record x { waiting = others; tickets = tickets; turn = turn.Reservation })

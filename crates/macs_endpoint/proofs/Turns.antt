@@ -16,7 +16,7 @@ use Rattle.macs_endpoint.specs.Lives.{FitsLife, LeavesLife, Lives, Transition, e
 use Rattle.macs_endpoint.specs.Restart.{Fits, FitsCall, state_during, state_taking_alone}
 use Rattle.macs_endpoint.specs.Serving.{EndsAs, IsServed, Takes, Told, call_of, is_halt, reply_of}
 use Rattle.macs_endpoint.specs.State.{Advances, Call, Commands, Logs, Protects, Receives, Refills, Reply, State}
-use Rattle.macs_endpoint.specs.State.{Submits, state_with_in_hand, no_logs}
+use Rattle.macs_endpoint.specs.State.{Submits, state_with_under_way, no_logs}
 use Rattle.macs_endpoint.specs.Step.{Steps, Step}
 use Rattle.macs_endpoint.specs.declared.event.Answer.{Answer}
 use Rattle.macs_endpoint.specs.declared.event.Event.{Event}
@@ -24,7 +24,7 @@ use Rattle.macs_endpoint.specs.declared.event.ServeEnd.{ServeEnd}
 use Rattle.macs_endpoint.specs.declared.event.ServeEnd.TheVariants.{Ended, Halted, TurnsSpent}
 use Rattle.macs_endpoint.specs.declared.queue.Waiting.{Waiting}
 use Rattle.macs_endpoint.proofs.Fitting.{fits-advancing, fits-holding}
-use Rattle.macs_endpoint.proofs.Work.{free-hand}
+use Rattle.macs_endpoint.proofs.Work.{free-under_way}
 
 -- ---- how answers end
 
@@ -59,16 +59,16 @@ held_or_not P false false x y this other = other
 
 module _ (edition : Edition) (sectors : ℕ) (image : Image) (s : State) (fits : Fits edition sectors image s) where
   -- no command was under way before one that does not wait
-  fits_alone : (command : Command) (waiting : List Waiting) → (waiting ≡ [] → s.stopped ≡ false → s.in_hand ≡ None)
+  fits_alone : (command : Command) (waiting : List Waiting) → (waiting ≡ [] → s.stopped ≡ false → s.under_way ≡ None)
       → Fits edition sectors image (state_taking_alone s command waiting)
   fits_alone command [] free =
       held_or_not (Fits edition sectors image) s.stopped (is_ok (apply s.edition s.identity s.config command))
-      (state_with_in_hand s command) s
+      (state_with_under_way s command) s
       (λ running. fits-holding sectors image fits.is_found.0 edition s command (free refl running) fits) fits
   fits_alone command (first ∷ rest) free = fits
 
   -- what fits a state fits it while a call is under way
-  fits_during : (call : Call) → (s.waiting ≡ [] → s.stopped ≡ false → s.in_hand ≡ None)
+  fits_during : (call : Call) → (s.waiting ≡ [] → s.stopped ≡ false → s.under_way ≡ None)
       → Fits edition sectors image (state_during s call)
   fits_during (Commands command) free = fits_alone command s.waiting free
   fits_during Refills free = fits
@@ -79,7 +79,7 @@ module _ (edition : Edition) (sectors : ℕ) (image : Image) (s : State) (fits :
 
 -- while it runs a command under way is one that waits
 abbrev pub IsFree : {D : Type 0} → EndpointValue D → Type 0
-IsFree e = e.waiting ≡ [] → is_stopped e ≡ false → e.in_hand ≡ None
+IsFree e = e.waiting ≡ [] → is_stopped e ≡ false → e.under_way ≡ None
 
 module _ {D : Type 0} (disk_of : D → Disk) (turn : Transition D) where
   -- ---- calls and their steps
@@ -260,7 +260,7 @@ module _ {D : Type 0} (disk_of : D → Disk) (old : EndpointValue D) (told : Tol
           honest = same ∙ are.honest;
           any_moment = λ honest backed.
               let before : IsHonest (disk_in disk_of mid) = sym same ∙ honest in
-              leaves_more disk_of turn mid call (free-hand mid kept) honest (are.backed before backed) turns old
+              leaves_more disk_of turn mid call (free-under_way mid kept) honest (are.backed before backed) turns old
               are.lives (are.any_moment before backed);
           backed = λ honest backed. (call.survives honest (are.backed (sym same ∙ honest) backed)).backed;
           source = taken.1 ∙ are.source;

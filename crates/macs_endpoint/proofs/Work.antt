@@ -19,7 +19,7 @@ use Rattle.macs_endpoint.specs.State.{no_logs, rx_side, tx_side}
 use Rattle.macs_endpoint.specs.Value.{EndpointValue, IsAtRest, IsKeeping, IsRaiseWithin, IsReserving, IsRxRaiseWithin}
 use Rattle.macs_endpoint.specs.Value.{IsSoundEndpoint, is_stopped, state_of}
 use Rattle.macs_endpoint.proofs.Fitting.{AreAhead, kept-ahead}
-use Rattle.macs_endpoint.proofs.InHand.{raise-ahead, some_is}
+use Rattle.macs_endpoint.proofs.Working.{raise-ahead, some_is}
 use Rattle.macs_endpoint.proofs.Raises.{IsAhead, raise-parts, rx-first}
 
 -- ---- ceilings that rise
@@ -99,11 +99,11 @@ module _ {D : Type 0} (e : EndpointValue D) (kept : IsSoundEndpoint e) where
 
   -- ---- commands
 
-  free_by : e.waiting ≡ [] → is_stopped e ≡ false → IsAtRest e ⊎ (IsReserving e ⊎ IsKeeping e) → e.in_hand ≡ None
-  free_by none running (inl rest) = rest.in_hand running
-  free_by none running (inr (inl work)) = work.in_hand
+  free_by : e.waiting ≡ [] → is_stopped e ≡ false → IsAtRest e ⊎ (IsReserving e ⊎ IsKeeping e) → e.under_way ≡ None
+  free_by none running (inl rest) = rest.under_way running
+  free_by none running (inr (inl work)) = work.under_way
   free_by none running (inr (inr work)) = absurd (let waits = sym work.waiting ∙ none in cc)
 
   -- while it runs a command under way is one that waits
-  pub free-hand : e.waiting ≡ [] → is_stopped e ≡ false → e.in_hand ≡ None
-  free-hand none running = free_by none running kept.work
+  pub free-under_way : e.waiting ≡ [] → is_stopped e ≡ false → e.under_way ≡ None
+  free-under_way none running = free_by none running kept.work

@@ -4,7 +4,7 @@ use Rattle.std.proofs.Common.{Err, refl, ◌∙◌, ap, arith}
 use Rattle.macs_disk.specs.Disk.{Disk}
 use Rattle.macs_store.specs.Keeps.{most_calls}
 use Rattle.macs_store.specs.Value.{IsIdle, StoreValue, calls_left}
-use Rattle.macs_endpoint.specs.Advancing.{BeginsWith, GoesOn, Piece, ToKeep, ToRaise, next_piece}
+use Rattle.macs_endpoint.specs.Advancing.{BeginsWith, GoesOn, Due, ToKeep, ToRaise, next_due}
 use Rattle.macs_endpoint.specs.Calls.{AdvancesIn, IsCall, Rests}
 use Rattle.macs_endpoint.specs.WorkThroughCalls.{Lasts, steps_in_call, steps_made}
 use Rattle.macs_endpoint.specs.Limits.{IsStill}
@@ -20,7 +20,7 @@ use Rattle.macs_endpoint.specs.declared.fault.StepFault.TheVariants as step
 use Rattle.macs_endpoint.specs.declared.fault.StepFault.{StepFault}
 use Rattle.macs_endpoint.specs.declared.progress.Step.{Step as Progress}
 use Rattle.macs_endpoint.specs.declared.progress.Step.TheVariants.{Done, Idle, Reserved, Worked}
-use Rattle.macs_endpoint.proofs.InHand.{not_stopped}
+use Rattle.macs_endpoint.proofs.Working.{not_stopped}
 
 -- the state after is stopped where the one before is
 still_stopped : (s t : State) → s.stopped ≡ true → t ≡ s → t.stopped ≡ true
@@ -116,13 +116,13 @@ module _ {D : Type 0} (disk_of : D → Disk) where
         | inr fewer ↦ omega (arith, fewer, steps_left turns turn.after new lives.2 lasts.2)
       ]
 
-  begins_within : (old begun : EndpointValue D) (piece : Option Piece) → BeginsWith old piece (Ok Worked) begun
+  begins_within : (old begun : EndpointValue D) (due : Option Due) → BeginsWith old due (Ok Worked) begun
       → calls_left begun.store + 1 ≤ most_calls old.store
   begins_within old begun None begins = absurd begins
   begins_within old begun (Some (ToRaise raise)) begins = begins.1
   begins_within old begun (Some (ToKeep first)) begins = begins.1
 
-  -- how many steps a piece of work takes, with the one that begins it
+  -- how many steps what is under way takes, with the one that begins it
   pub work-ends : (old begun new : EndpointValue D) (turns : List (Transition D)) → IsIdle old.store
       → IsCall disk_of old Advances (Advanced (Ok Worked)) begun
       → Lives disk_of begun turns new → Lasts begun turns → steps_made turns + 1 ≤ most_calls old.store
@@ -133,6 +133,6 @@ module _ {D : Type 0} (disk_of : D → Disk) where
       ] in
       omega (
         arith,
-        begins_within old begun (next_piece old) ((call.behaves.advances running).begins idle),
+        begins_within old begun (next_due old) ((call.behaves.advances running).begins idle),
         steps_left turns begun new lives lasts,
       )

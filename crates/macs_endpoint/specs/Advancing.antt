@@ -21,26 +21,26 @@ use Rattle.macs_endpoint.specs.declared.turn.Turn.TheVariants as turn
 
 -- ---- turns
 
--- a piece of work: to raise a ceiling, or to keep the first pending command
-pub data Piece : Type 0 where
-  ToRaise : Raise → Piece
-  ToKeep : Waiting → Piece
+-- what is due: to raise a ceiling, or to keep the first pending command
+pub data Due : Type 0 where
+  ToRaise : Raise → Due
+  ToKeep : Waiting → Due
 
 -- which one begins if a ceiling is needed and a command is pending
-abbrev pub piece_by_turn : Turn → Raise → Waiting → Piece
-piece_by_turn turn.Reservation raise first = ToRaise raise
-piece_by_turn turn.Command raise first = ToKeep first
+abbrev pub due_by_turn : Turn → Raise → Waiting → Due
+due_by_turn turn.Reservation raise first = ToRaise raise
+due_by_turn turn.Command raise first = ToKeep first
 
 -- which one begins, if any: if there is only one of the two, that one
-abbrev pub piece_among : Turn → Option Raise → Option Waiting → Option Piece
-piece_among whose None None = None
-piece_among whose (Some raise) None = Some (ToRaise raise)
-piece_among whose None (Some first) = Some (ToKeep first)
-piece_among whose (Some raise) (Some first) = Some (piece_by_turn whose raise first)
+abbrev pub due_among : Turn → Option Raise → Option Waiting → Option Due
+due_among whose None None = None
+due_among whose (Some raise) None = Some (ToRaise raise)
+due_among whose None (Some first) = Some (ToKeep first)
+due_among whose (Some raise) (Some first) = Some (due_by_turn whose raise first)
 
 -- which one begins in an endpoint
-abbrev pub next_piece : {D : Type 0} → EndpointValue D → Option Piece
-next_piece e = piece_among e.turn (raise_in e) (first_waiting e.waiting)
+abbrev pub next_due : {D : Type 0} → EndpointValue D → Option Due
+next_due e = due_among e.turn (raise_in e) (first_waiting e.waiting)
 
 -- whose turn it is after a step: a reservation that is done, or that the journal has no room for, passes the turn to a
 -- command; a command that is done, refused or not, to a reservation
@@ -68,34 +68,34 @@ turn_after e call reply = e.turn
 
 -- ---- a step
 
--- A step of an endpoint that is running and has no work under way: it is idle if there is no piece of work; otherwise
--- that piece begins, with its first device call, or is refused before it. Whether that call succeeds or fails, a
+-- A step of an endpoint that is running and has no work under way: it is idle if nothing is due; otherwise
+-- that begins, with its first device call, or is refused before it. Whether that call succeeds or fails, a
 -- command is under way then, and a reservation leaves none under way.
-abbrev pub BeginsWith : {D : Type 0} → EndpointValue D → Option Piece → Result Progress StepFault
+abbrev pub BeginsWith : {D : Type 0} → EndpointValue D → Option Due → Result Progress StepFault
     → EndpointValue D → Type 0
 BeginsWith old None (Ok Idle) new = new ≡ old
 BeginsWith old (Some (ToRaise raise)) (Ok Worked) new =
-    (new.reserving ≡ Some raise) × (calls_left new.store + 1 ≤ most_calls old.store) × (new.in_hand ≡ None)
+    (new.reserving ≡ Some raise) × (calls_left new.store + 1 ≤ most_calls old.store) × (new.under_way ≡ None)
 BeginsWith old (Some (ToRaise raise)) (Err step.GenerationsSpent) new = IsSpent old.store
-BeginsWith old (Some (ToRaise raise)) (Err step.Disk) new = new.in_hand ≡ None
-BeginsWith old (Some (ToKeep first)) (Ok Worked) new = (new.in_hand ≡ Some first.command)
+BeginsWith old (Some (ToRaise raise)) (Err step.Disk) new = new.under_way ≡ None
+BeginsWith old (Some (ToKeep first)) (Ok Worked) new = (new.under_way ≡ Some first.command)
     × (calls_left new.store + 1 ≤ most_calls old.store)
 BeginsWith old (Some (ToKeep first)) (Ok (Done ticket (Err (ran.Refused refusal)))) new = Unit {0}
 BeginsWith old (Some (ToKeep first)) (Ok (Done ticket (Err ran.GenerationsSpent))) new = IsSpent old.store
-BeginsWith old (Some (ToKeep first)) (Err step.Disk) new = new.in_hand ≡ Some first.command
-BeginsWith old piece result new = ⊥
+BeginsWith old (Some (ToKeep first)) (Err step.Disk) new = new.under_way ≡ Some first.command
+BeginsWith old due result new = ⊥
 
 -- A step of an endpoint with work under way: the next device call of that work, which continues, with fewer calls left,
 -- or is done with the last. If the call fails a command under way stays so.
 abbrev pub GoesOn : {D : Type 0} → EndpointValue D → Result Progress StepFault → EndpointValue D → Type 0
 GoesOn old (Ok Worked) new =
-    (new.reserving ≡ old.reserving) × (new.in_hand ≡ old.in_hand) × (¬ IsIdle new.store)
+    (new.reserving ≡ old.reserving) × (new.under_way ≡ old.under_way) × (¬ IsIdle new.store)
     × (calls_left new.store + 1 ≤ calls_left old.store)
 GoesOn old (Ok Reserved) new = ((raise : Raise) × (old.reserving ≡ Some raise)) × IsIdle new.store
     × (calls_left old.store ≡ 1)
-GoesOn old (Ok (Done ticket (Ok done))) new = ((command : Command) × (old.in_hand ≡ Some command)) × IsIdle new.store
+GoesOn old (Ok (Done ticket (Ok done))) new = ((command : Command) × (old.under_way ≡ Some command)) × IsIdle new.store
     × (calls_left old.store ≡ 1)
-GoesOn old (Err step.Disk) new = new.in_hand ≡ old.in_hand
+GoesOn old (Err step.Disk) new = new.under_way ≡ old.under_way
 GoesOn old result new = ⊥
 
 -- how far the clock of the disk advances in a step with this answer: by one if the work continued or was done,
@@ -109,6 +109,6 @@ ClockAfter old result new = new ≤ old + 1
 -- what a step of a running endpoint does
 pub record AdvancesAs {D : Type 0} (disk_of : D → Disk) (old : EndpointValue D) (result : Result Progress StepFault)
     (new : EndpointValue D) : Type 0 where
-  pub begins : IsIdle old.store → BeginsWith old (next_piece old) result new
+  pub begins : IsIdle old.store → BeginsWith old (next_due old) result new
   pub goes_on : (¬ IsIdle old.store) → GoesOn old result new
   pub one : ClockAfter (disk_in disk_of old).clock result (disk_in disk_of new).clock

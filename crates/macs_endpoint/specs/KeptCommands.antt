@@ -36,6 +36,6 @@ pub record StartsFirst {D : Type 0} (disk_of : D → Disk) (old : EndpointValue 
     (result : Result (Unit {0}) CommitFault) (new : EndpointValue D) : Type 0 where
   pub starts : StartsCommit disk_of old.store first.command result new.store
   pub same : OnErr result (new ≡ old)
-  pub taken : OnOk result (new ≡ record old { store = new.store; in_hand = Some first.command })
+  pub taken : OnOk result (new ≡ record old { store = new.store; under_way = Some first.command })
   pub keeping : OnOk result (IsKeeping new)
   pub sound : OnOk result (IsSoundEndpoint old)

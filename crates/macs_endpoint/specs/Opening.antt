@@ -41,7 +41,7 @@ pub record IsNewRx (rx : rxsc.RxValue) : Type 0 where
 pub record Begins {D : Type 0} (store : StoreValue D) (e : EndpointValue D) : Type 0 where
   pub from : e.store ≡ store
   pub sound : IsSoundEndpoint e
-  pub idle : IsAtRest e × (e.in_hand ≡ None)
+  pub idle : IsAtRest e × (e.under_way ≡ None)
   pub queue : (e.waiting ≡ []) × (e.tickets ≡ 0)
   pub turn : e.turn ≡ Reservation
   pub next : (txsc.tx_side_of e.tx).next ≡ (standing_in store).ceilings.tx

@@ -13,11 +13,11 @@ use Rattle.macs_endpoint.specs.declared.turn.Turn.{Turn}
 -- the value of an endpoint made of these parts
 abbrev pub endpoint_of : {D : Type 0} → StoreValue D → Channels → Option Command → Option Raise → QueueValue → Turn
     → EndpointValue D
-endpoint_of store channels in_hand reserving queue turn = record {
+endpoint_of store channels under_way reserving queue turn = record {
   store = store;
   tx = channels.tx;
   rx = channels.rx;
-  in_hand = in_hand;
+  under_way = under_way;
   reserving = option_map raise_of reserving;
   waiting = queue.waiting;
   tickets = queue.given;

@@ -59,7 +59,7 @@ pub record HasRaised {D : Type 0} (disk_of : D → Disk) (old : EndpointValue D)
   pub still : IsIdle old.store → raises ≡ [] → new ≡ old.store
 
 -- A device call of the reservation under way failed. That reservation is not made: the standing is unchanged.
-pub record FailsInHand {D : Type 0} (disk_of : D → Disk) (old : EndpointValue D) (new : StoreValue D) : Type 0 where
+pub record FailsUnderWay {D : Type 0} (disk_of : D → Disk) (old : EndpointValue D) (new : StoreValue D) : Type 0 where
   pub raise : Raise
   pub reserving : old.reserving ≡ Some raise
   pub stands : standing_in new ≡ standing_in old.store
@@ -80,5 +80,5 @@ abbrev pub Spends : {D : Type 0} → (D → Disk) → EndpointValue D → Result
 Spends disk_of old (Ok done) new = (raises : List Raise) × HasRaised disk_of old raises new
 Spends disk_of old (Err refill.GenerationsSpent) new = (raises : List Raise) × HasRaised disk_of old raises new
 Spends disk_of old (Err refill.Disk) new =
-    FailsInHand disk_of old new ⊎ ((raises : List Raise) × (raise : Raise) × FailsBehind disk_of old raises raise new)
+    FailsUnderWay disk_of old new ⊎ ((raises : List Raise) × (raise : Raise) × FailsBehind disk_of old raises raise new)
 Spends disk_of old (Err fault) new = new ≡ old.store

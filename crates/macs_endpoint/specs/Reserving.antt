@@ -8,7 +8,7 @@ use Rattle.macs_journal.specs.declared.fault.JournalFault.TheVariants as journal
 use Rattle.macs_txsc.specs.Value as txsc
 use Rattle.macs_rxsc.specs.Value as rxsc
 use Rattle.macs_store.specs.Keeps.{IsSpent, generation_after, most_calls, slots_after}
-use Rattle.macs_store.specs.Stepping.{HasInHand}
+use Rattle.macs_store.specs.Stepping.{HasUnderWay}
 use Rattle.macs_store.specs.Value.{IsIdle, calls_left, generation, generation_then, slots_then, standing_in, used_slots}
 use Rattle.macs_endpoint.specs.Calls.{Fails}
 use Rattle.macs_endpoint.specs.Ceilings.{Raise, StandsRefilled, standing_with_raise, standing_with_reserved}
@@ -89,7 +89,7 @@ pub record StartsRaise {D : Type 0} (disk_of : D → Disk) (old : EndpointValue 
     (result : Result (Unit {0}) JournalFault) (new : EndpointValue D) : Type 0 where
   pub refused : OnErr result (IsErrOf result journal.GenerationsSpent × (new ≡ old) × IsSpent old.store)
   pub room : OnOk result (¬ IsSpent old.store)
-  pub in_hand : OnOk result (HasInHand disk_of old.store (standing_with_raise (standing_in old.store) raise) new.store)
+  pub under_way : OnOk result (HasUnderWay disk_of old.store (standing_with_raise (standing_in old.store) raise) new.store)
   pub taken : OnOk result (new ≡ record old { store = new.store; reserving = Some raise })
   pub reserving : OnOk result (IsReserving new)
   pub sound : OnOk result (IsSoundEndpoint old)

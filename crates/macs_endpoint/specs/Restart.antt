@@ -9,7 +9,7 @@ use Rattle.macs_disk.specs.States.{Image}
 use Rattle.macs_rxsc.specs.Receive.{Numbers, first_numbers}
 use Rattle.macs_store.specs.Found.{StandingIs}
 use Rattle.macs_store.specs.Standing.{Standing}
-use Rattle.macs_endpoint.specs.State.{Advances, Call, Commands, Logs, State, state_with_in_hand}
+use Rattle.macs_endpoint.specs.State.{Advances, Call, Commands, Logs, State, state_with_under_way}
 use Rattle.macs_endpoint.specs.Step.{Makes}
 use Rattle.macs_endpoint.specs.declared.queue.Waiting.{Waiting}
 
@@ -47,14 +47,14 @@ pub record Resumes (old new : State) : Type 0 where
   pub numbers : (sci : List ℕ) (an : ℕ) → RxRises old.identity.rx_block (old.numbers sci an) (new.numbers sci an)
   pub logs : new.logs ≡ old.logs
   pub running : new.stopped ≡ false
-  pub idle : new.in_hand ≡ None
+  pub idle : new.under_way ≡ None
   pub waiting : new.waiting ≡ []
   pub tickets : new.tickets ≡ 0
 
 -- the state is resumed, or the state after the command under way
 abbrev pub Restart : State → State → Type 0
 Restart old new = Resumes old new
-    ⊎ ((command : Command) × (mid : State) × (old.in_hand ≡ Some command) × Makes old command mid × Resumes mid new)
+    ⊎ ((command : Command) × (mid : State) × (old.under_way ≡ Some command) × Makes old command mid × Resumes mid new)
 
 -- ---- the meaning of an image
 
@@ -68,7 +68,7 @@ opened_state found logs = record {
   numbers = λ sci an. option_map first_numbers (found.ceilings.rx sci an);
   logs = logs;
   stopped = false;
-  in_hand = None;
+  under_way = None;
   waiting = [];
   tickets = 0;
 }
@@ -82,7 +82,7 @@ pub record Fits (edition : Edition) (sectors : ℕ) (image : Image) (s : State) 
 -- the state with a command under way if work on it may begin: the endpoint is running, and accepts it
 abbrev pub state_taking : State → Command → State
 state_taking s command = if not s.stopped && is_ok (apply s.edition s.identity s.config command)
-    then state_with_in_hand s command else s
+    then state_with_under_way s command else s
 
 -- a command that does not wait is taken if none is pending
 abbrev pub state_taking_alone : State → Command → List Waiting → State
@@ -92,12 +92,12 @@ state_taking_alone s command (first ∷ rest) = s
 -- the first pending command is taken if none is under way
 abbrev pub state_taking_first : State → Option Command → List Waiting → State
 state_taking_first s None (first ∷ rest) = state_taking s first.command
-state_taking_first s in_hand waiting = s
+state_taking_first s under_way waiting = s
 
 -- the state during a call: a command is under way if work on it may have begun
 abbrev pub state_during : State → Call → State
 state_during s (Commands command) = state_taking_alone s command s.waiting
-state_during s Advances = state_taking_first s s.in_hand s.waiting
+state_during s Advances = state_taking_first s s.under_way s.waiting
 state_during s call = s
 
 -- what a power loss during a call or after it leaves

@@ -56,7 +56,7 @@ pub record State : Type 0 where
   pub numbers : List ℕ → ℕ → Option Numbers
   pub logs : Logs
   pub stopped : Bool
-  pub in_hand : Option Command
+  pub under_way : Option Command
   pub waiting : List Waiting
   pub tickets : ℕ
 
@@ -89,8 +89,8 @@ abbrev pub rx_side : State → RxSide
 rx_side s = rx_side_with s.config s.numbers
 
 -- the state with a command under way
-abbrev pub state_with_in_hand : State → Command → State
-state_with_in_hand s command = record s { in_hand = Some command }
+abbrev pub state_with_under_way : State → Command → State
+state_with_under_way s command = record s { under_way = Some command }
 
 -- the state after a device call failed: the disk must be opened again
 abbrev pub state_after_fault : State → State

@@ -34,7 +34,7 @@ use Rattle.macs_endpoint.specs.declared.queue.Waiting.{Waiting}
 use Rattle.macs_endpoint.specs.Queue.{last_ticket, queue_length, with_waiting}
 use Rattle.macs_endpoint.specs.State.{Accepts, Advanced, AdvancedLong, Advances, Call, Commands, NoneWait, Protects}
 use Rattle.macs_endpoint.specs.State.{Protected, Ran, Received, Receives, Refilled, Refills, RefusedLong, Reply, State}
-use Rattle.macs_endpoint.specs.State.{Submits, Submitted, state_after_fault, state_with_in_hand, rx_side, tx_side}
+use Rattle.macs_endpoint.specs.State.{Submits, Submitted, state_after_fault, state_with_under_way, rx_side, tx_side}
 
 -- ---- commands
 
@@ -59,7 +59,7 @@ state_after_command s command config = record s {
   config = config;
   next = next_after command s.next;
   numbers = numbers_after command s.numbers;
-  in_hand = None;
+  under_way = None;
 }
 
 -- a command is not refused, and leads from old to new
@@ -76,7 +76,7 @@ CommandStep old command (Err (ran.Refused refusal)) new =
     NoneWait old × (apply old.edition old.identity old.config command ≡ Err (Named refusal)) × (new ≡ old)
 CommandStep old command (Err ran.GenerationsSpent) new = NoneWait old × Accepts old command × (new ≡ old)
 CommandStep old command (Err ran.Disk) new = NoneWait old × Accepts old command
-    × (new ≡ state_after_fault (state_with_in_hand old command))
+    × (new ≡ state_after_fault (state_with_under_way old command))
 CommandStep old command (Err ran.Stopped) new = ⊥
 
 -- an edition that does not accept the key of a command refuses it for that, and nothing changes
@@ -105,21 +105,21 @@ SubmitStep old command (Err submit.Stopped) new = ⊥
 
 -- the first pending command is started: it is accepted, and nothing was under way
 abbrev pub TakesUp : State → State → Type 0
-TakesUp old new = (first : Waiting) × (rest : List Waiting) × (old.waiting ≡ first ∷ rest) × (old.in_hand ≡ None)
-    × Accepts old first.command × (new ≡ state_with_in_hand old first.command)
+TakesUp old new = (first : Waiting) × (rest : List Waiting) × (old.waiting ≡ first ∷ rest) × (old.under_way ≡ None)
+    × Accepts old first.command × (new ≡ state_with_under_way old first.command)
 
 -- the state without the first pending command, which is no longer under way
 abbrev pub state_without_first : State → List Waiting → State
-state_without_first s rest = record s { waiting = rest; in_hand = None }
+state_without_first s rest = record s { waiting = rest; under_way = None }
 
 -- The first pending command is completed. One that is under way took effect; one that is not took effect, or was
 -- refused, or the journal cannot be rewritten for it.
 abbrev pub Ends : State → Waiting → List Waiting → Result (Unit {0}) CommandFault → State → Type 0
 Ends old first rest (Ok done) new = Makes (state_without_first old rest) first.command new
 Ends old first rest (Err (ran.Refused refusal)) new =
-    (old.in_hand ≡ None) × (apply old.edition old.identity old.config first.command ≡ Err (Named refusal))
+    (old.under_way ≡ None) × (apply old.edition old.identity old.config first.command ≡ Err (Named refusal))
     × (new ≡ state_without_first old rest)
-Ends old first rest (Err ran.GenerationsSpent) new = (old.in_hand ≡ None) × Accepts old first.command
+Ends old first rest (Err ran.GenerationsSpent) new = (old.under_way ≡ None) × Accepts old first.command
     × (new ≡ state_without_first old rest)
 Ends old first rest (Err fault) new = ⊥
 
@@ -140,7 +140,7 @@ AdvanceStep old (Err step.Stopped) new = ⊥
 -- the first pending command, which is not under way, is refused for the length of its key
 abbrev pub RefusesFirst : State → Waiting → List Waiting → State → Type 0
 RefusesFirst old first rest new =
-    (old.in_hand ≡ None) × (apply old.edition old.identity old.config first.command ≡ Err LongKey)
+    (old.under_way ≡ None) × (apply old.edition old.identity old.config first.command ≡ Err LongKey)
     × (new ≡ state_without_first old rest)
 
 -- a step of an edition that does not accept the key of the first pending command

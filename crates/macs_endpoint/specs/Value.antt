@@ -31,7 +31,7 @@ pub record EndpointValue (D : Type 0) : Type 0 where
   pub store : StoreValue D
   pub tx : Tx
   pub rx : rxsc.RxValue
-  pub in_hand : Option Command
+  pub under_way : Option Command
   pub reserving : Option Raise
   pub waiting : List Waiting
   pub tickets : ℕ
@@ -59,7 +59,7 @@ state_of e logs = record {
   numbers = (rxsc.rx_side_of e.rx).numbers;
   logs = logs;
   stopped = is_stopped e;
-  in_hand = e.in_hand;
+  under_way = e.under_way;
   waiting = e.waiting;
   tickets = e.tickets;
 }
@@ -119,7 +119,7 @@ IsRaiseWithin tx rx identity (RaiseRx need) =
 pub record IsAtRest {D : Type 0} (e : EndpointValue D) : Type 0 where
   pub store : IsIdle e.store
   pub reserving : e.reserving ≡ None
-  pub in_hand : is_stopped e ≡ false → e.in_hand ≡ None
+  pub under_way : is_stopped e ≡ false → e.under_way ≡ None
 
 -- a ceiling is being raised
 pub record IsReserving {D : Type 0} (e : EndpointValue D) : Type 0 where
@@ -127,7 +127,7 @@ pub record IsReserving {D : Type 0} (e : EndpointValue D) : Type 0 where
   pub busy : ¬ IsIdle e.store
   pub raise : Raise
   pub reserving : e.reserving ≡ Some raise
-  pub in_hand : e.in_hand ≡ None
+  pub under_way : e.under_way ≡ None
   pub leads : standing_then e.store ≡ Some (standing_with_raise (standing_in e.store) raise)
   pub within : IsRaiseWithin e.tx e.rx (standing_in e.store).identity raise
 
@@ -139,7 +139,7 @@ pub record IsKeeping {D : Type 0} (e : EndpointValue D) : Type 0 where
   pub first : Waiting
   pub rest : List Waiting
   pub waiting : e.waiting ≡ first ∷ rest
-  pub in_hand : e.in_hand ≡ Some first.command
+  pub under_way : e.under_way ≡ Some first.command
   pub in_range : IsCommand first.command
   pub after : Standing
   pub leads : standing_then e.store ≡ Some after

@@ -39,7 +39,7 @@ pub struct Endpoint<D: SectorDisk> {
     pub(crate) store: Store<D>,
     /// The command whose call or whose work on the disk began and did not end; it stays after a
     /// device fault.
-    pub(crate) in_hand: Option<Checked>,
+    pub(crate) under_way: Option<Checked>,
     /// The ceiling that is being raised.
     pub(crate) reserving: Option<Raise>,
     pub(crate) queue: Queue,
@@ -50,10 +50,10 @@ pub struct Endpoint<D: SectorDisk> {
 impl<D: SectorDisk> Model for Endpoint<D> {
     ghost Value = { EndpointValue D };
 
-    ghost view = { λ e. endpoint_of e.store e.channels e.in_hand e.reserving e.queue e.turn };
+    ghost view = { λ e. endpoint_of e.store e.channels e.under_way e.reserving e.queue e.turn };
 
     ghost invariant = { λ e.
-        IsSoundEndpoint (endpoint_of e.store e.channels e.in_hand e.reserving e.queue e.turn) };
+        IsSoundEndpoint (endpoint_of e.store e.channels e.under_way e.reserving e.queue e.turn) };
 }
 
 impl<D: SectorDisk> Endpoint<D> {
@@ -93,7 +93,7 @@ impl<D: SectorDisk> Endpoint<D> {
         store.config().facts();
         Ok(Endpoint {
             store,
-            in_hand: None,
+            under_way: None,
             reserving: None,
             queue: Queue::new(),
             channels,
@@ -138,7 +138,7 @@ impl<D: SectorDisk> Endpoint<D> {
     {
         self.facts();
         if self.finish_reservation().is_err() {
-            self.in_hand = Some(*checked);
+            self.under_way = Some(*checked);
             self.turn = Turn::Reservation;
             return Err(CommandFault::Disk);
         }
@@ -163,7 +163,7 @@ impl<D: SectorDisk> Endpoint<D> {
             }
             Err(fault) => match fault {
                 CommitFault::Disk => {
-                    self.in_hand = Some(*checked);
+                    self.under_way = Some(*checked);
                     Err(CommandFault::Disk)
                 }
                 _ => Err(CommandFault::GenerationsSpent),
@@ -218,10 +218,10 @@ impl<D: SectorDisk> Endpoint<D> {
 
     /// The command under way: its call, or its work, began and did not end. It stays after a device
     /// fault, and may or may not be found once the disk is opened again.
-    pub fn in_hand(&self) -> Option<Command>
-        ensures { result ≡ (state_of self.now no_logs).in_hand }
+    pub fn under_way(&self) -> Option<Command>
+        ensures { result ≡ (state_of self.now no_logs).under_way }
     {
-        let checked = self.in_hand?;
+        let checked = self.under_way?;
         Some(checked.command())
     }
 

@@ -9,7 +9,7 @@ ghost use Rattle.macs_rxsc.specs.Receive.{Arrival, Arrives};
 ghost use Rattle.macs_rxsc.specs.declared.verdict.Verdict.TheVariants.{HeldBack};
 ghost use Rattle.macs_store.specs.Keeps.{most_calls};
 ghost use Rattle.macs_store.specs.Value.{IsIdle, standing_in};
-ghost use Rattle.macs_endpoint.specs.Advancing.{ToRaise, next_piece};
+ghost use Rattle.macs_endpoint.specs.Advancing.{ToRaise, next_due};
 ghost use Rattle.macs_endpoint.specs.Calls.{IsCall};
 ghost use Rattle.macs_endpoint.specs.Ceilings.{Raise, standing_with_raise};
 ghost use Rattle.macs_endpoint.specs.Value.{IsSoundEndpoint, EndpointValue, state_of};
@@ -108,7 +108,7 @@ pub fn frames_not_held_back<D: SectorDisk>()
         → IsCall D.disk old (Receives frame) (Received (Ok HeldBack) out) new → ⊥ }
 {}
 
-/// How many steps a piece of work takes.
+/// The most steps that work under way takes.
 ///
 /// From the step that begins it to the one that ends it, both included, there are at most 4; or, if
 /// all 256 slots of the journal's current area are used when it begins, 523 plus one for each
@@ -120,11 +120,11 @@ pub fn work_ends<D: SectorDisk>()
         → steps_made turns + 1 ≤ most_calls old.store }
 {}
 
-/// A reservation raises the ceiling that was needed first when it began, though frames may have
-/// come in between.
+/// A reservation raises the ceiling that was needed first when it began, even if frames arrived
+/// meanwhile.
 pub fn reserved_as_begun<D: SectorDisk>()
     ensures { (old begun last new : EndpointValue D) (turns : List (Transition D)) (raise : Raise)
-        → IsIdle old.store → next_piece old ≡ Some (ToRaise raise)
+        → IsIdle old.store → next_due old ≡ Some (ToRaise raise)
         → IsCall D.disk old Advances (Advanced (Ok Worked)) begun → Lives D.disk begun turns last
         → Lasts begun turns → IsSoundEndpoint last
         → IsCall D.disk last Advances (Advanced (Ok Reserved)) new

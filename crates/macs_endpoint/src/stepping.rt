@@ -3,10 +3,10 @@
 ghost use Rattle.std.specs.Prelude.{◌≡◌, Some, false};
 ghost use Rattle.std.specs.Option.{option_map};
 ghost use Rattle.macs_store.specs.Value.{IsIdle};
-ghost use Rattle.macs_endpoint.specs.Advancing.{ToKeep, ToRaise, next_piece};
+ghost use Rattle.macs_endpoint.specs.Advancing.{ToKeep, ToRaise, next_due};
 ghost use Rattle.macs_endpoint.specs.Calls.{IsCall};
 ghost use Rattle.macs_endpoint.specs.KeptCommands.{StartsFirst};
-ghost use Rattle.macs_endpoint.specs.PrivateTypes.{piece_of, raise_of};
+ghost use Rattle.macs_endpoint.specs.PrivateTypes.{due_of, raise_of};
 ghost use Rattle.macs_endpoint.specs.Queue.{first_waiting};
 ghost use Rattle.macs_endpoint.specs.State.{Advanced, Advances, Submits, Submitted};
 ghost use Rattle.macs_endpoint.specs.Value.{IsKeeping, IsReserving, is_stopped};
@@ -22,8 +22,8 @@ use macs_config::laws::command_in_range;
 use macs_disk::SectorDisk;
 use macs_store::{CommitFault, JournalStep};
 
-/// A piece of work on the disk.
-pub enum Piece {
+/// What is due on the disk.
+pub enum Due {
     /// To raise a ceiling.
     Raise(Raise),
     /// To keep the first pending command.
@@ -68,30 +68,30 @@ impl<D: SectorDisk> Endpoint<D> {
         }
     }
 
-    /// Begins the next piece of work, if any. No work is under way.
+    /// Begins what is due next, if anything. No work is under way.
     fn begin(&mut self) -> Result<Step, StepFault>
         requires running { is_stopped self.old ≡ false }
         requires idle { IsIdle self.old.store }
         ensures { IsCall D.disk self.old Advances (Advanced result) self.new }
     {
-        match self.next_piece() {
-            Some(Piece::Raise(raise)) => self.begin_raise(raise),
-            Some(Piece::Keep(first)) => self.begin_command(first),
+        match self.next_due() {
+            Some(Due::Raise(raise)) => self.begin_raise(raise),
+            Some(Due::Keep(first)) => self.begin_command(first),
             None => Ok(Step::Idle),
         }
     }
 
-    /// The next piece of work: that whose turn it is if there are both, otherwise the only one.
-    fn next_piece(&self) -> Option<Piece>
-        ensures { option_map piece_of result ≡ next_piece self.now }
+    /// What is due next: that whose turn it is if there are both, otherwise the only one.
+    fn next_due(&self) -> Option<Due>
+        ensures { option_map due_of result ≡ next_due self.now }
     {
         match (self.first_raise(), self.queue.first()) {
             (Some(raise), Some(first)) => match self.turn {
-                Turn::Reservation => Some(Piece::Raise(raise)),
-                Turn::Command => Some(Piece::Keep(first)),
+                Turn::Reservation => Some(Due::Raise(raise)),
+                Turn::Command => Some(Due::Keep(first)),
             },
-            (Some(raise), None) => Some(Piece::Raise(raise)),
-            (None, Some(first)) => Some(Piece::Keep(first)),
+            (Some(raise), None) => Some(Due::Raise(raise)),
+            (None, Some(first)) => Some(Due::Keep(first)),
             (None, None) => None,
         }
     }
@@ -100,7 +100,7 @@ impl<D: SectorDisk> Endpoint<D> {
     fn begin_raise(&mut self, raise: Raise) -> Result<Step, StepFault>
         requires running { is_stopped self.old ≡ false }
         requires idle { IsIdle self.old.store }
-        requires next { next_piece self.old ≡ Some (ToRaise (raise_of raise)) }
+        requires next { next_due self.old ≡ Some (ToRaise (raise_of raise)) }
         ensures { IsCall D.disk self.old Advances (Advanced result) self.new }
     {
         if self.start_raise(raise).is_err() {
@@ -115,7 +115,7 @@ impl<D: SectorDisk> Endpoint<D> {
     fn begin_command(&mut self, first: Waiting) -> Result<Step, StepFault>
         requires running { is_stopped self.old ≡ false }
         requires idle { IsIdle self.old.store }
-        requires next { next_piece self.old ≡ Some (ToKeep first) }
+        requires next { next_due self.old ≡ Some (ToKeep first) }
         ensures { IsCall D.disk self.old Advances (Advanced result) self.new }
     {
         command_in_range(&first.command);
@@ -138,7 +138,7 @@ impl<D: SectorDisk> Endpoint<D> {
         match self.store.check(&first.command) {
             Ok(checked) => {
                 self.store.start_checked(&checked)?;
-                self.in_hand = Some(checked);
+                self.under_way = Some(checked);
                 Ok(())
             }
             Err(refusal) => Err(CommitFault::Refused(refusal)),
@@ -176,7 +176,7 @@ impl<D: SectorDisk> Endpoint<D> {
             Ok(progress) => match progress {
                 JournalStep::Finished => {
                     let done = self.queue.pop();
-                    let checked = self.in_hand.take().unwrap();
+                    let checked = self.under_way.take().unwrap();
                     self.channels.follow(&checked, &self.store);
                     self.turn = Turn::Reservation;
                     Ok(Step::Done(done.ticket, Ok(())))

@@ -306,12 +306,12 @@ by_steps waiting old (e ∷ es) new same steps =
 finds : (before after : Standing) (exchanges : List Exchange) (end : State) → end.edition ≡ before.edition
     → end.identity ≡ before.identity
     → CommandsMake before.edition before.identity before.config (acknowledged_commands exchanges) end.config
-    → Restart end (opened_state after end.logs) → FindsPrefix before exchanges end.in_hand after
+    → Restart end (opened_state after end.logs) → FindsPrefix before exchanges end.under_way after
 finds before after exchanges end edition identity made (inl up) = record {
   identity = up.identity ∙ identity;
   kept = acknowledged_commands exchanges;
   acknowledged = ([], append-nil (acknowledged_commands exchanges));
-  accepted = (option_to_list end.in_hand, refl);
+  accepted = (option_to_list end.under_way, refl);
   made = subst (CommandsMake before.edition before.identity before.config (acknowledged_commands exchanges))
       (sym up.config) made;
 }

@@ -19,9 +19,9 @@ use Rattle.macs_headline.specs.History.{Blank, FitsPast, FormatLeads, Formats, F
 use Rattle.macs_headline.specs.History.{LeadOn, Leads, Life, Past, Refuses, Serves, formatted_state, state_at_end}
 use Rattle.macs_headline.specs.Moments.{Moment}
 use Rattle.macs_headline.proofs.Answered.{history-on}
-use Rattle.macs_headline.proofs.CommandInHand.{in-hand-was-begun}
+use Rattle.macs_headline.proofs.CommandUnderWay.{under-way-was-begun}
 use Rattle.macs_headline.proofs.Commands.{commands-kept}
-use Rattle.macs_headline.proofs.HandedIn.{in-hand-was-given}
+use Rattle.macs_headline.proofs.HandedIn.{under-way-was-given}
 use Rattle.macs_headline.proofs.Histories.{fits-restart, found-new}
 use Rattle.macs_headline.proofs.Identities.{identity-found, identity-of-life}
 use Rattle.macs_headline.proofs.Lists.{contains-cases, contains-none}
@@ -136,10 +136,10 @@ module _ (sectors : ℕ) where
         of_edition = refl;
         opened = refl;
         answered = refl;
-        in_hand = (state_at_end last cut).in_hand;
+        under_way = (state_at_end last cut).under_way;
         at_end = refl;
-        begun = λ command hand. in-hand-was-begun sectors last m cut command hand;
-        handed_in = λ command hand. in-hand-was-given sectors last m cut command hand;
+        begun = λ command hand. under-way-was-begun sectors last m cut command hand;
+        handed_in = λ command hand. under-way-was-given sectors last m cut command hand;
         acknowledged = finds.acknowledged;
         accepted = finds.accepted;
       } in

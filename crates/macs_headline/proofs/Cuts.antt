@@ -24,7 +24,7 @@ use Rattle.macs_endpoint.specs.Restart.{Fits, Resumes, opened_state, state_durin
 use Rattle.macs_endpoint.specs.Restart.{state_taking_first}
 use Rattle.macs_endpoint.specs.State.{Advanced, AdvancedLong, Advances, Call, Commands, Logs, NoneWait, Protected}
 use Rattle.macs_endpoint.specs.State.{Protects, Ran, Received, Receives, Refilled, Refills, RefusedLong, Reply, State}
-use Rattle.macs_endpoint.specs.State.{Submits, Submitted, state_after_fault, state_with_in_hand}
+use Rattle.macs_endpoint.specs.State.{Submits, Submitted, state_after_fault, state_with_under_way}
 use Rattle.macs_endpoint.specs.Step.{AdvanceStep, CommandStep, Ends, RefillStep, Step, TakesUp, state_after_command}
 use Rattle.macs_endpoint.specs.Step.{state_without_first}
 use Rattle.macs_endpoint.specs.Value.{EndpointValue, IsAtRest, IsBacked, IsKeeping, IsReserving, IsSoundEndpoint}
@@ -32,13 +32,13 @@ use Rattle.macs_endpoint.specs.Value.{disk_in, state_of}
 
 -- ---- what is under way
 
-pub none_in_hand : (c : Command) → ◌≡◌ {A = Option Command} None (Some c) → ⊥
-none_in_hand c is = cc
+pub none_under_way : (c : Command) → ◌≡◌ {A = Option Command} None (Some c) → ⊥
+none_under_way c is = cc
 
 -- while the endpoint runs, a command is under way only where it is the first that waits
 pub record IsSettled (s : State) : Type 0 where
-  pub alone : s.stopped ≡ false → NoneWait s → s.in_hand ≡ None
-  pub first : s.stopped ≡ false → (c : Command) → s.in_hand ≡ Some c → first_command s.waiting ≡ Some c
+  pub alone : s.stopped ≡ false → NoneWait s → s.under_way ≡ None
+  pub first : s.stopped ≡ false → (c : Command) → s.under_way ≡ Some c → first_command s.waiting ≡ Some c
 
 none_waits : (first : Waiting) (rest : List Waiting) → first ∷ rest ≡ [] → ⊥
 none_waits first rest is = cc
@@ -46,16 +46,16 @@ none_waits first rest is = cc
 module _ {D : Type 0} (e : EndpointValue D) (logs : Logs) where
   by_work : IsAtRest e ⊎ (IsReserving e ⊎ IsKeeping e) → IsSettled (state_of e logs)
   by_work (inl at) = record {
-    alone = λ running none. at.in_hand running;
-    first = λ running c hand. absurd (none_in_hand c (sym (at.in_hand running) ∙ hand));
+    alone = λ running none. at.under_way running;
+    first = λ running c hand. absurd (none_under_way c (sym (at.under_way running) ∙ hand));
   }
   by_work (inr (inl at)) = record {
-    alone = λ running none. at.in_hand;
-    first = λ running c hand. absurd (none_in_hand c (sym at.in_hand ∙ hand));
+    alone = λ running none. at.under_way;
+    first = λ running c hand. absurd (none_under_way c (sym at.under_way ∙ hand));
   }
   by_work (inr (inr at)) = record {
     alone = λ running none. absurd (none_waits at.first at.rest (sym at.waiting ∙ none));
-    first = λ running c hand. ap first_command at.waiting ∙ sym at.in_hand ∙ hand;
+    first = λ running c hand. ap first_command at.waiting ∙ sym at.under_way ∙ hand;
   }
 
 -- ---- states that a restart does not tell apart
@@ -72,7 +72,7 @@ record IsAlike (a b : State) : Type 0 where
 resumes_alike : (a b new : State) → IsAlike a b → Resumes a new → Resumes b new
 resumes_alike a b new alike up =
     let part : State =
-    record a { stopped = b.stopped; in_hand = b.in_hand; waiting = b.waiting; tickets = b.tickets } in
+    record a { stopped = b.stopped; under_way = b.under_way; waiting = b.waiting; tickets = b.tickets } in
     let same : part ≡ b =
     (λ i. record {
       edition = alike.edition i;
@@ -82,7 +82,7 @@ resumes_alike a b new alike up =
       numbers = alike.numbers i;
       logs = alike.logs i;
       stopped = b.stopped;
-      in_hand = b.in_hand;
+      under_way = b.under_way;
       waiting = b.waiting;
       tickets = b.tickets;
     }) in
@@ -100,9 +100,9 @@ resumes_alike a b new alike up =
     } in
     subst (λ (s : State). Resumes s new) same moved
 
-all_alike : (a : State) (stopped : Bool) (in_hand : Option Command) (waiting : List Waiting)
-    → IsAlike a (record a { stopped = stopped; in_hand = in_hand; waiting = waiting })
-all_alike a stopped in_hand waiting =
+all_alike : (a : State) (stopped : Bool) (under_way : Option Command) (waiting : List Waiting)
+    → IsAlike a (record a { stopped = stopped; under_way = under_way; waiting = waiting })
+all_alike a stopped under_way waiting =
     record { edition = refl; identity = refl; config = refl; next = refl; numbers = refl; logs = refl }
 
 module _ (edition : Edition) (sectors : ℕ) (image : Image) where
@@ -110,15 +110,15 @@ module _ (edition : Edition) (sectors : ℕ) (image : Image) where
   FitsHere s = Fits edition sectors image s
 
   -- nothing was under way before a command
-  fits_holding : (s : State) (command : Command) → s.in_hand ≡ None → FitsHere s
-      → FitsHere (state_with_in_hand s command)
+  fits_holding : (s : State) (command : Command) → s.under_way ≡ None → FitsHere s
+      → FitsHere (state_with_under_way s command)
   fits_holding s command idle fits = record {
     found = fits.found;
     is_found = fits.is_found;
     restart = elim fits.restart [
-      | inl up ↦ inl (resumes_alike s (state_with_in_hand s command) (opened_state fits.found s.logs)
+      | inl up ↦ inl (resumes_alike s (state_with_under_way s command) (opened_state fits.found s.logs)
           (all_alike s s.stopped (Some command) s.waiting) up)
-      | inr made ↦ absurd (none_in_hand made.0 (sym idle ∙ made.2))
+      | inr made ↦ absurd (none_under_way made.0 (sym idle ∙ made.2))
     ];
   }
 
@@ -136,27 +136,27 @@ module _ (edition : Edition) (sectors : ℕ) (image : Image) where
 
   -- a command that is accepted is taken
   taken : (s : State) (c : Command) → s.stopped ≡ false → is_ok (apply s.edition s.identity s.config c) ≡ true
-      → FitsHere (state_with_in_hand s c)
+      → FitsHere (state_with_under_way s c)
       → FitsHere (state_taking s c)
   taken s c running accepted fits =
-      held_surely FitsHere s.stopped (is_ok (apply s.edition s.identity s.config c)) (state_with_in_hand s c) s running
+      held_surely FitsHere s.stopped (is_ok (apply s.edition s.identity s.config c)) (state_with_under_way s c) s running
       accepted fits
 
   -- before the call
-  fits_taking : (s : State) (c : Command) → (s.stopped ≡ false → s.in_hand ≡ None) → FitsHere s
+  fits_taking : (s : State) (c : Command) → (s.stopped ≡ false → s.under_way ≡ None) → FitsHere s
       → FitsHere (state_taking s c)
   fits_taking s c idle fits =
-      held_or_not FitsHere s.stopped (is_ok (apply s.edition s.identity s.config c)) (state_with_in_hand s c) s
+      held_or_not FitsHere s.stopped (is_ok (apply s.edition s.identity s.config c)) (state_with_under_way s c) s
       (λ running. fits_holding s c (idle running) fits) fits
 
   fits_alone : (s : State) (c : Command) (waiting : List Waiting)
-      → (s.stopped ≡ false → waiting ≡ [] → s.in_hand ≡ None) → FitsHere s
+      → (s.stopped ≡ false → waiting ≡ [] → s.under_way ≡ None) → FitsHere s
       → FitsHere (state_taking_alone s c waiting)
   fits_alone s c [] idle fits = fits_taking s c (λ running. idle running refl) fits
   fits_alone s c (first ∷ rest) idle fits = fits
 
-  fits_first : (s : State) (in_hand : Option Command) (waiting : List Waiting) → s.in_hand ≡ in_hand → FitsHere s
-      → FitsHere (state_taking_first s in_hand waiting)
+  fits_first : (s : State) (under_way : Option Command) (waiting : List Waiting) → s.under_way ≡ under_way → FitsHere s
+      → FitsHere (state_taking_first s under_way waiting)
   fits_first s None [] is fits = fits
   fits_first s None (first ∷ rest) is fits = fits_taking s first.command (λ running. is) fits
   fits_first s (Some c) waiting is fits = fits
@@ -165,7 +165,7 @@ module _ (edition : Edition) (sectors : ℕ) (image : Image) where
   fits_during s (Commands c) settled fits = fits_alone s c s.waiting settled.alone fits
   fits_during s Refills settled fits = fits
   fits_during s (Submits c) settled fits = fits
-  fits_during s Advances settled fits = fits_first s s.in_hand s.waiting refl fits
+  fits_during s Advances settled fits = fits_first s s.under_way s.waiting refl fits
   fits_during s (Protects plain) settled fits = fits
   fits_during s (Receives frame) settled fits = fits
 
@@ -175,15 +175,15 @@ module _ (edition : Edition) (sectors : ℕ) (image : Image) where
   during_alone s c none fits = subst (λ (w : List Waiting). FitsHere (state_taking_alone s c w)) (sym none) fits
 
   -- while none is under way
-  during_first : (s : State) (first : Waiting) (rest : List Waiting) → s.waiting ≡ first ∷ rest → s.in_hand ≡ None
+  during_first : (s : State) (first : Waiting) (rest : List Waiting) → s.waiting ≡ first ∷ rest → s.under_way ≡ None
       → FitsHere (state_taking s first.command)
       → FitsHere (state_during s Advances)
   during_first s first rest waiting idle fits =
-      subst (λ (w : List Waiting). FitsHere (state_taking_first s s.in_hand w)) (sym waiting)
+      subst (λ (w : List Waiting). FitsHere (state_taking_first s s.under_way w)) (sym waiting)
       (subst (λ (h : Option Command). FitsHere (state_taking_first s h (first ∷ rest))) (sym idle) fits)
 
   -- while one is
-  during_held : (s : State) (c : Command) → s.in_hand ≡ Some c → FitsHere s → FitsHere (state_during s Advances)
+  during_held : (s : State) (c : Command) → s.under_way ≡ Some c → FitsHere s → FitsHere (state_during s Advances)
   during_held s c hand fits =
       subst (λ (h : Option Command). FitsHere (state_taking_first s h s.waiting)) (sym hand) fits
 
@@ -194,7 +194,7 @@ module _ (edition : Edition) (sectors : ℕ) (image : Image) where
     is_found = fits.is_found;
     restart = elim fits.restart [
       | inl up ↦ inl (resumes_alike (state_after_fault s) s (opened_state fits.found s.logs)
-          (all_alike (state_after_fault s) s.stopped s.in_hand s.waiting) up)
+          (all_alike (state_after_fault s) s.stopped s.under_way s.waiting) up)
       | inr made ↦
           let command = made.0 in
           let makes = made.3 in
@@ -212,7 +212,7 @@ module _ (edition : Edition) (sectors : ℕ) (image : Image) where
   }
 
   -- the command under way was done, whatever waits then
-  fits_done : (s : State) (rest : List Waiting) (c : Command) (config : Config) → s.in_hand ≡ Some c
+  fits_done : (s : State) (rest : List Waiting) (c : Command) (config : Config) → s.under_way ≡ Some c
       → apply s.edition s.identity s.config c ≡ Ok config
       → FitsHere (state_after_command (record s { waiting = rest }) c config) → FitsHere s
   fits_done s rest c config hand ok fits =
@@ -229,7 +229,7 @@ module _ (edition : Edition) (sectors : ℕ) (image : Image) where
             (config, ok, refl),
             resumes_alike later mid (opened_state fits.found s.logs) (all_alike later s.stopped None s.waiting) up,
           )
-          | inr made ↦ absurd (none_in_hand made.0 made.2)
+          | inr made ↦ absurd (none_under_way made.0 made.2)
         ];
       }
 
@@ -242,8 +242,8 @@ module _ (edition : Edition) (sectors : ℕ) (image : Image) where
         is_found = fits.is_found;
         restart = elim fits.restart [
           | inl up ↦ inl (resumes_alike later s (opened_state fits.found s.logs)
-              (all_alike later s.stopped s.in_hand s.waiting) up)
-          | inr made ↦ absurd (none_in_hand made.0 made.2)
+              (all_alike later s.stopped s.under_way s.waiting) up)
+          | inr made ↦ absurd (none_under_way made.0 made.2)
         ];
       }
 
@@ -255,11 +255,11 @@ module _ (edition : Edition) (sectors : ℕ) (image : Image) where
   by_command old c (Ok done) new running settled (none, (config, ok, is)) fits =
       during_alone old c none
       (taken old c running (ap is_ok ok)
-      (fits_done (state_with_in_hand old c) old.waiting c config refl ok (subst FitsHere is fits)))
+      (fits_done (state_with_under_way old c) old.waiting c config refl ok (subst FitsHere is fits)))
   by_command old c (Err ran.Stopped) new running settled h fits = absurd h
   by_command old c (Err ran.Disk) new running settled (none, accepts, is) fits =
       during_alone old c none
-      (taken old c running accepts (fits_running (state_with_in_hand old c) (subst FitsHere is fits)))
+      (taken old c running accepts (fits_running (state_with_under_way old c) (subst FitsHere is fits)))
   by_command old c (Err ran.Busy) new running settled (some, is) fits =
       fits_during old (Commands c) settled (subst FitsHere is fits)
   by_command old c (Err fault) new running settled h fits =
@@ -278,18 +278,18 @@ module _ (edition : Edition) (sectors : ℕ) (image : Image) where
       during_first old first rest waiting idle (taken old first.command running accepts (subst FitsHere is fits))
 
   -- the first one that waits took effect, under way before or not
-  by_done : (old : State) (first : Waiting) (rest : List Waiting) (config : Config) (in_hand : Option Command)
+  by_done : (old : State) (first : Waiting) (rest : List Waiting) (config : Config) (under_way : Option Command)
       → old.stopped ≡ false → IsSettled old
-      → old.waiting ≡ first ∷ rest → old.in_hand ≡ in_hand
+      → old.waiting ≡ first ∷ rest → old.under_way ≡ under_way
       → apply old.edition old.identity old.config first.command ≡ Ok config
       → FitsHere (state_after_command (state_without_first old rest) first.command config)
       → FitsHere (state_during old Advances)
   by_done old first rest config None running settled waiting hand ok fits =
       during_first old first rest waiting hand
       (taken old first.command running (ap is_ok ok)
-      (fits_done (state_with_in_hand old first.command) rest first.command config refl ok fits))
+      (fits_done (state_with_under_way old first.command) rest first.command config refl ok fits))
   by_done old first rest config (Some c) running settled waiting hand ok fits =
-      let its : old.in_hand ≡ Some first.command = hand ∙ sym (settled.first running c hand)
+      let its : old.under_way ≡ Some first.command = hand ∙ sym (settled.first running c hand)
       ∙ ap first_command waiting in
       during_held old first.command its (fits_done old rest first.command config its ok fits)
 
@@ -298,7 +298,7 @@ module _ (edition : Edition) (sectors : ℕ) (image : Image) where
       → old.waiting ≡ first ∷ rest → Ends old first rest result new → FitsHere new
       → FitsHere (state_during old Advances)
   by_end old first rest (Ok done) new running settled waiting (config, ok, is) fits =
-      by_done old first rest config old.in_hand running settled waiting refl ok (subst FitsHere is fits)
+      by_done old first rest config old.under_way running settled waiting refl ok (subst FitsHere is fits)
   by_end old first rest (Err (ran.Refused refusal)) new running settled waiting (idle, why, is) fits =
       fits_during old Advances settled (fits_refused old rest (subst FitsHere is fits))
   by_end old first rest (Err ran.GenerationsSpent) new running settled waiting (idle, accepts, is) fits =

@@ -1,4 +1,4 @@
--- The disk on which the journal of the first edition starts over, in an opening of this one that is cut short.
+-- The disk on which the journal of the first edition is compacted, in an opening of this one that is cut short.
 use Rattle.std.proofs.Common.{◌≡◌, ◌≢◌, ◌<◌, ◌≤◌, ◌-◌, inl, inr, ℕ, zero, suc, true, false, List, ◌∷◌, take, refl, sym}
 use Rattle.std.proofs.Common.{◌∙◌, ap, subst, arith}
 use Rattle.std.specs.Prelude.{slice_get}
@@ -15,8 +15,8 @@ use Rattle.macs_journal.specs.Stages.{AreBodiesWritten, IsBodyOf, IsCleared}
 use Rattle.macs_journal.specs.Value.{IsHolding}
 use Rattle.macs_journal.specs.Work.{IsSpared}
 use Rattle.macs_headline.specs.ExampleCuts.{Write, body_writes, compaction_states, disk_through, place_behind}
-use Rattle.macs_headline.specs.ExampleCuts.{state_after_writes, writes_anew}
-use Rattle.macs_headline.specs.ExampleMigration.{beginning_disk, beginning_in_hand, migrated_content, used_content}
+use Rattle.macs_headline.specs.ExampleCuts.{state_after_writes, compaction_writes}
+use Rattle.macs_headline.specs.ExampleMigration.{beginning_disk, beginning_under_way, migrated_content, used_content}
 use Rattle.macs_headline.specs.ExampleMigration.{used_image, used_records}
 use Rattle.macs_headline.specs.Images.{image_with_area}
 use Rattle.macs_headline.proofs.Built.{area-body, area-head}
@@ -33,7 +33,7 @@ head_write = record { at = head_body 1; octets = head_sector_of head }
 abbrev three_writes : List Write
 three_writes = head_write ∷ body_writes 1 0 (take 2 used_records)
 
-writes_are : take 3 (writes_anew used_content used_records) ≡ three_writes
+writes_are : take 3 (compaction_writes used_content used_records) ≡ three_writes
 unfolding body_writes
 writes_are = refl
 
@@ -44,7 +44,7 @@ moment = compaction_states used_image used_content used_records
 early : (k : ℕ) → k ≤ 258 → moment k ≡ settled_state used_image
 unfolding state_after_writes
 early k le = let none : k - 258 ≡ 0 = omega (arith, le) in
-    ap (λ (n : ℕ). state_after_writes (settled_state used_image) (take n (writes_anew used_content used_records))) none
+    ap (λ (n : ℕ). state_after_writes (settled_state used_image) (take n (compaction_writes used_content used_records))) none
 
 last_is : moment 261 ≡ state_after_writes (settled_state used_image) three_writes
 last_is = ap (λ (ws : List Write). state_after_writes (settled_state used_image) ws) writes_are
@@ -77,7 +77,7 @@ spared from to i same le = record {
   };
 } where
   durable_at : (k : ℕ) → (moment k).durable ≡ used_image
-  durable_at k = writes_durable (take (k - 258) (writes_anew used_content used_records)) (settled_state used_image)
+  durable_at k = writes_durable (take (k - 258) (compaction_writes used_content used_records)) (settled_state used_image)
 
 cleared : IsCleared (disk_through moment 0) (disk_through moment 258) 1
 cleared = record {
@@ -104,8 +104,8 @@ untouched : (i : ℕ) → i ≢ head_body 1 → IsNoBody 1 2 i → (k : ℕ) →
     → ((moment k).seen i ≡ used_image i) × ((moment k).pending i ≡ false)
 untouched i apart none k low high =
     let n = k - 258 in
-    let is : take n (writes_anew used_content used_records) ≡ take n three_writes =
-    some_of n (omega (arith, low, high)) (writes_anew used_content used_records)
+    let is : take n (compaction_writes used_content used_records) ≡ take n three_writes =
+    some_of n (omega (arith, low, high)) (compaction_writes used_content used_records)
     ∙ ap (λ (ws : List Write). take n ws) writes_are in
     subst (λ (ws : List Write). ((state_after_writes (settled_state used_image) ws).seen i ≡ used_image i)
     × ((state_after_writes (settled_state used_image) ws).pending i ≡ false))
@@ -140,7 +140,7 @@ bodies_written = record {
   others = λ i apart none. spared 258 261 i (untouched i apart none) (omega arith);
 }
 
-pub beginning-holds : IsHolding beginning_disk (place_behind used_content) beginning_in_hand used_content
+pub beginning-holds : IsHolding beginning_disk (place_behind used_content) beginning_under_way used_content
     migrated_content
 beginning-holds = record {
   at = record { area = refl; head = refl; free = refl };

@@ -30,11 +30,11 @@ use Rattle.macs_journal.proofs.Appends.{finds-but-body}
 use Rattle.macs_store.specs.Snapshot.{settings_record}
 use Rattle.macs_headline.specs.Deeds.{IsPassedOn}
 use Rattle.macs_headline.specs.Example.{own_sa}
-use Rattle.macs_headline.specs.ExampleCuts.{IsOneCall, IsRun, Write, append_in_hand, append_states, body_writes}
-use Rattle.macs_headline.specs.ExampleCuts.{compacting_disk, compaction_in_hand, compaction_states, disk_through}
+use Rattle.macs_headline.specs.ExampleCuts.{IsOneCall, IsRun, Write, append_under_way, append_states, body_writes}
+use Rattle.macs_headline.specs.ExampleCuts.{compacting_disk, compaction_under_way, compaction_states, disk_through}
 use Rattle.macs_headline.specs.ExampleCuts.{killed_disk, place_behind, state_after_writes, torn_image, widening_disk}
-use Rattle.macs_headline.specs.ExampleCuts.{working_disk, writes_anew}
-use Rattle.macs_headline.specs.ExampleDisk.{anew_content, checked, cut_image, ended_content, narrow_content}
+use Rattle.macs_headline.specs.ExampleCuts.{working_disk, compaction_writes}
+use Rattle.macs_headline.specs.ExampleDisk.{compacted_content, checked, cut_image, ended_content, narrow_content}
 use Rattle.macs_headline.specs.ExampleDisk.{narrow_image, full_content, full_image, full_snapshot, last_content}
 use Rattle.macs_headline.specs.ExampleDisk.{last_image, served_content, served_image, widened}
 use Rattle.macs_headline.specs.ExampleStanding.{served_config}
@@ -99,7 +99,7 @@ module _ (image : Image) (c : Content) (r : Record) (room : length c.records < s
 
   -- the gate is written
   pub append-holds : (states : ℕ → DiskState) (calls : ℕ) → states calls ≡ append_states image c r 3
-      → IsHolding (disk_through states calls) (place_behind c) (append_in_hand r) c (content_with_record c r)
+      → IsHolding (disk_through states calls) (place_behind c) (append_under_way r) c (content_with_record c r)
   append-holds states calls is = record {
     at = record { area = refl; head = refl; free = refl };
     holds = (
@@ -134,7 +134,7 @@ append_left image c r = record {
   whole = λ i pending. gate_whole (i == free_gate c) open_gate (image_with_next_body image c r i) open_sector pending;
 }
 
-pub widening-holds : IsHolding widening_disk (place_behind narrow_content) (append_in_hand widened) narrow_content
+pub widening-holds : IsHolding widening_disk (place_behind narrow_content) (append_under_way widened) narrow_content
     served_content
 widening-holds = append-holds narrow_image narrow_content widened (omega arith) widened-range narrow-found
     (append_states narrow_image narrow_content widened) 3 refl
@@ -147,13 +147,13 @@ left-open = append_left narrow_image narrow_content widened
 last_room : length last_content.records < slots
 last_room = omega (arith, last-size)
 
-pub working-holds : IsHolding working_disk (place_behind last_content) (append_in_hand checked) last_content
+pub working-holds : IsHolding working_disk (place_behind last_content) (append_under_way checked) last_content
     ended_content
 working-holds = append-holds last_image last_content checked last_room tt last-found
     (append_states last_image last_content checked) 3 refl
 
 -- the next disk holds the same
-pub killed-holds : IsHolding killed_disk (place_behind last_content) (append_in_hand checked) last_content ended_content
+pub killed-holds : IsHolding killed_disk (place_behind last_content) (append_under_way checked) last_content ended_content
 killed-holds = append-holds last_image last_content checked last_room tt last-found (λ k. now working_disk) 0 refl
 
 pub killed-passed : IsPassedOn working_disk working_disk.clock killed_disk
@@ -210,7 +210,7 @@ two_records = ap (λ (rs : List Record). take 2 rs) snapshot-is
 abbrev three_writes : List Write
 three_writes = head_write ∷ body_writes 1 0 (take 2 full_snapshot)
 
-writes_are : take 3 (writes_anew full_content full_snapshot) ≡ three_writes
+writes_are : take 3 (compaction_writes full_content full_snapshot) ≡ three_writes
 unfolding body_writes
 writes_are =
     ap (λ (rs : List Record). head_write ∷ take 2 (body_writes 1 0 rs)) snapshot-is
@@ -223,7 +223,7 @@ moment = compaction_states full_image full_content full_snapshot
 early : (k : ℕ) → k ≤ 258 → moment k ≡ settled_state full_image
 unfolding state_after_writes
 early k le = let none : k - 258 ≡ 0 = omega (arith, le) in
-    ap (λ (n : ℕ). state_after_writes (settled_state full_image) (take n (writes_anew full_content full_snapshot))) none
+    ap (λ (n : ℕ). state_after_writes (settled_state full_image) (take n (compaction_writes full_content full_snapshot))) none
 
 last_is : moment 261 ≡ state_after_writes (settled_state full_image) three_writes
 last_is = ap (λ (ws : List Write). state_after_writes (settled_state full_image) ws) writes_are
@@ -261,7 +261,7 @@ spared from to i same le = record {
   };
 } where
   durable_at : (k : ℕ) → (moment k).durable ≡ full_image
-  durable_at k = writes_durable (take (k - 258) (writes_anew full_content full_snapshot)) (settled_state full_image)
+  durable_at k = writes_durable (take (k - 258) (compaction_writes full_content full_snapshot)) (settled_state full_image)
 
 cleared : IsCleared (disk_through moment 0) (disk_through moment 258) 1
 cleared = record {
@@ -309,8 +309,8 @@ untouched : (i : ℕ) → i ≢ head_body 1 → IsNoBody 1 2 i → (k : ℕ) →
     → ((moment k).seen i ≡ full_image i) × ((moment k).pending i ≡ false)
 untouched i apart none k low high =
     let n = k - 258 in
-    let is : take n (writes_anew full_content full_snapshot) ≡ take n three_writes =
-    some_of n (omega (arith, low, high)) (writes_anew full_content full_snapshot)
+    let is : take n (compaction_writes full_content full_snapshot) ≡ take n three_writes =
+    some_of n (omega (arith, low, high)) (compaction_writes full_content full_snapshot)
     ∙ ap (λ (ws : List Write). take n ws) writes_are in
     subst (λ (ws : List Write). ((state_after_writes (settled_state full_image) ws).seen i ≡ full_image i)
     × ((state_after_writes (settled_state full_image) ws).pending i ≡ false))
@@ -362,8 +362,8 @@ bodies_written = record {
   others = λ i apart none. spared 258 261 i (untouched i apart none) (omega arith);
 }
 
-pub compacting-holds : IsHolding compacting_disk (place_behind full_content) compaction_in_hand full_content
-    anew_content
+pub compacting-holds : IsHolding compacting_disk (place_behind full_content) compaction_under_way full_content
+    compacted_content
 compacting-holds = record {
   at = record { area = refl; head = refl; free = refl };
   holds = record {

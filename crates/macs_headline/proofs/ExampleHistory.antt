@@ -20,7 +20,7 @@ use Rattle.macs_endpoint.specs.Step.{Exchange, Step, Steps}
 use Rattle.macs_headline.specs.Example.{add_peer, check_only, example_identity, example_plain, example_sectors, guard}
 use Rattle.macs_headline.specs.Example.{install_own_again, install_peer_again, later_edition, own_key, own_sa}
 use Rattle.macs_headline.specs.Example.{peer_frame, peer_key, peer_sa, peer_sci, remove_peer, stay_strict, widen}
-use Rattle.macs_headline.specs.ExampleCuts.{append_in_hand, killed_disk, place_behind}
+use Rattle.macs_headline.specs.ExampleCuts.{append_under_way, killed_disk, place_behind}
 use Rattle.macs_headline.specs.ExampleDisk.{checked, cut_image, ended_content, ended_image, last_content, last_image}
 use Rattle.macs_headline.specs.ExampleDisk.{new_image, served_image}
 use Rattle.macs_headline.specs.ExampleStanding.{checked_standing, full_standing, last_standing, served_config}
@@ -536,7 +536,7 @@ module _ (peer : All (λ octet. octet < 2 ^ 8) (peer_frame 5)) where
     past = Formatted fourth_end;
     history = early;
     images = λ image left. fits-killed image
-        (holding-image killed_disk (place_behind last_content) (append_in_hand checked) last_content ended_content
+        (holding-image killed_disk (place_behind last_content) (append_under_way checked) last_content ended_content
         killed-holds image left);
   }
 
@@ -556,7 +556,7 @@ module _ (peer : All (λ octet. octet < 2 ^ 8) (peer_frame 5)) where
     torn = torn-left;
     left_torn = cut-left;
     cut = cut-stands;
-    anew = (refl, refl, new-generation);
+    compacted = (refl, refl, new-generation);
     working = working-holds;
     working_calls = working-run;
     killed = killed-passed;

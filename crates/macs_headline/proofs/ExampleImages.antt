@@ -36,7 +36,7 @@ use Rattle.macs_store.specs.Standing.{no_ceilings}
 use Rattle.macs_store.proofs.Snapshots.{snapshot-stands}
 use Rattle.macs_headline.specs.Example.{add_peer, example_identity, example_sectors, install_own, install_peer}
 use Rattle.macs_headline.specs.Example.{later_edition, narrow, own_sa, peer_sa, peer_sci, remove_peer, use_own, widen}
-use Rattle.macs_headline.specs.ExampleDisk.{anew_content, anew_image, checked, cut_image, ended_content, ended_image}
+use Rattle.macs_headline.specs.ExampleDisk.{compacted_content, later_image, checked, cut_image, ended_content, ended_image}
 use Rattle.macs_headline.specs.ExampleDisk.{narrow_content, narrow_image, first_records, full_content, full_image}
 use Rattle.macs_headline.specs.ExampleDisk.{full_snapshot, last_content, last_image, new_content, new_image}
 use Rattle.macs_headline.specs.ExampleDisk.{second_records, served_content, served_image, third_records, widened}
@@ -44,7 +44,7 @@ use Rattle.macs_headline.specs.ExampleStanding.{checked_standing, full_standing,
 use Rattle.macs_headline.specs.Images.{blank_image, image_while_formatted, image_with_next_body}
 use Rattle.macs_headline.proofs.Built.{area-other, closed-gate, opened-found, opened-other, record-found, records-found}
 use Rattle.macs_headline.proofs.Built.{records-other}
-use Rattle.macs_headline.proofs.BuiltAnew.{anew-found, meaning-anew, meaning-more, same-again, written-found}
+use Rattle.macs_headline.proofs.Later.{later-found, meaning-later, meaning-more, same-again, written-found}
 use Rattle.macs_headline.proofs.ExampleRecords.{first-ranges, head-range, second-ranges, snapshot-is, snapshot-ranges}
 use Rattle.macs_headline.proofs.ExampleRecords.{third-ranges, widened-range}
 use Rattle.macs_headline.proofs.Places.{put-that, put_rx, put_rx-that}
@@ -161,7 +161,7 @@ full_meaning =
     served_meaning
     (same-again 244 (kept.SetValidate served_config.validate) raised_standing refl ∙ ap Some raised_is)
 
--- ---- while the journal starts over
+-- ---- during the compaction
 
 pub snapshot-size : length full_snapshot ≡ 6
 snapshot-size = ap length snapshot-is
@@ -186,8 +186,8 @@ cut_gates k le =
     (omega arith) (λ j lt. omega arith)
     ∙ far-full (gate 1 k) (omega arith))
 
-anew_head : IsHead (next_head full_content.head (length full_snapshot))
-anew_head = record {
+later_head : IsHead (next_head full_content.head (length full_snapshot))
+later_head = record {
   generation = omega arith;
   generations = omega arith;
   some = omega (arith, snapshot-size);
@@ -197,9 +197,9 @@ anew_head = record {
   rx_block = head-range.rx_block;
 }
 
-pub new-generation : HasJournal anew_image anew_content
+pub new-generation : HasJournal later_image compacted_content
 new-generation =
-    anew-found (cut_image 2) full_content (cut_found 2) 1 refl full_snapshot anew_head (omega (arith, snapshot-size))
+    later-found (cut_image 2) full_content (cut_found 2) 1 refl full_snapshot later_head (omega (arith, snapshot-size))
     (subst (AllByRecursion IsRecord) (sym snapshot-is) snapshot-ranges) cut_gates
 
 -- ---- what the snapshot stands for
@@ -287,7 +287,7 @@ snapshot_meaning edition is =
 
 pub last-found : HasJournal last_image last_content
 last-found =
-    records-found third_records anew_image anew_content (omega (arith, snapshot-size)) third-ranges new-generation
+    records-found third_records later_image compacted_content (omega (arith, snapshot-size)) third-ranges new-generation
 
 pub last-size : length last_content.records ≡ 8
 last-size = ap (λ (rs : List Record). length (rs ++ third_records)) snapshot-is
@@ -321,8 +321,8 @@ ended_is edition =
 last_meaning : (edition : Edition) → edition.format_two ≡ true → IsConfig edition example_identity served_config
     → meaning_of edition last_content ≡ Some (last_standing edition)
 last_meaning edition takes_two is =
-    meaning-more edition third_records anew_content (full_to edition) (last_standing edition) (omega arith) refl
-    (meaning-anew edition full_content full_snapshot (full_to edition) takes_two (snapshot_meaning edition is))
+    meaning-more edition third_records compacted_content (full_to edition) (last_standing edition) (omega arith) refl
+    (meaning-later edition full_content full_snapshot (full_to edition) takes_two (snapshot_meaning edition is))
     (ap Some (ended_is edition))
 
 pub larger : IsUpTo this_edition later_edition

@@ -42,7 +42,7 @@ use Rattle.macs_store.specs.Standing.{IsStanding, new_standing, no_ceilings}
 use Rattle.macs_store.proofs.Snapshots.{snapshot-stands}
 use Rattle.macs_endpoint.specs.Restart.{Fits, Resumes, TxRises, opened_state}
 use Rattle.macs_endpoint.specs.Calls.{IsInRange}
-use Rattle.macs_endpoint.specs.State.{Commands, RefusedLong, State, rx_side, state_with_in_hand}
+use Rattle.macs_endpoint.specs.State.{Commands, RefusedLong, State, rx_side, state_with_under_way}
 use Rattle.macs_endpoint.specs.Step.{Exchange, Step, Steps, state_after_command, state_after_delivery}
 use Rattle.macs_endpoint.specs.Step.{state_after_frame, state_after_hold}
 use Rattle.macs_headline.specs.Binding.{HasHistory}
@@ -52,7 +52,7 @@ use Rattle.macs_headline.specs.Example.{peer_frame, peer_key, peer_sa, peer_sci,
 use Rattle.macs_headline.specs.ExampleCuts.{body_writes, place_behind, state_after_writes}
 use Rattle.macs_headline.specs.ExampleLives.{obeyed}
 use Rattle.macs_headline.specs.ExampleMigration.{IsOldDisk, IsWorkedMigration, again_content, again_exchanges}
-use Rattle.macs_headline.specs.ExampleMigration.{again_image, beginning_disk, beginning_in_hand, begun_image}
+use Rattle.macs_headline.specs.ExampleMigration.{again_image, beginning_disk, beginning_under_way, begun_image}
 use Rattle.macs_headline.specs.ExampleMigration.{closed_image, filled_content, filled_image, filled_records}
 use Rattle.macs_headline.specs.ExampleMigration.{filled_snapshot, filled_standing, front_exchanges, install_long}
 use Rattle.macs_headline.specs.ExampleMigration.{later_lives, long_config, long_content, long_exchanges, long_image}
@@ -65,7 +65,7 @@ use Rattle.macs_headline.specs.Images.{blank_image, image_with_area, image_with_
 use Rattle.macs_headline.specs.Images.{image_with_record, image_with_records}
 use Rattle.macs_headline.proofs.Built.{area-other, closed-gate, opened-found, opened-other, records-found}
 use Rattle.macs_headline.proofs.Built.{records-other}
-use Rattle.macs_headline.proofs.BuiltAnew.{anew-found, meaning-anew, meaning-more, written-found}
+use Rattle.macs_headline.proofs.Later.{later-found, meaning-later, meaning-more, written-found}
 use Rattle.macs_headline.proofs.Chains.{settled-disks}
 use Rattle.macs_headline.proofs.ExampleCuts.{head-sector, record_sector, torn_kept, torn_whole}
 use Rattle.macs_headline.proofs.ExampleFits.{away, rx_all}
@@ -189,13 +189,13 @@ begun_closed k le =
     (λ j lt. omega arith) ∙ far_used (gate 1 k) (omega arith))
 
 migrated_found : HasJournal migrated_image migrated_content
-migrated_found = anew-found begun_image used_content begun_found 1 refl used_records next_range (omega arith)
+migrated_found = later-found begun_image used_content begun_found 1 refl used_records next_range (omega arith)
     used_ranges begun_closed
 
 long_found : HasJournal long_image long_content
 long_found = records-found long_records migrated_image migrated_content (omega arith) long_ranges migrated_found
 
--- ---- the area is full, and the journal starts over in the first one
+-- ---- the area is full, and the journal is compacted into the first one
 
 repeated : length (replicate 248 (kept.SetValidate Strict)) ≡ 248
 repeated = length-replicate 248 (kept.SetValidate Strict)
@@ -334,7 +334,7 @@ again_head = record {
 
 again_found : HasJournal again_image again_content
 again_found =
-    anew-found closed_image filled_content closed_found 0 refl filled_snapshot again_head (omega (arith, filled_size))
+    later-found closed_image filled_content closed_found 0 refl filled_snapshot again_head (omega (arith, filled_size))
     (subst (AllByRecursion IsRecord) (sym filled_is) six_ranges) shut
 
 -- ---- what they stand for
@@ -380,7 +380,7 @@ snapshot_meaning =
 
 migrated_meaning : meaning_of this_edition migrated_content ≡ Some (used_standing this_edition)
 migrated_meaning =
-    meaning-anew this_edition used_content used_records (used_standing this_edition) refl snapshot_meaning
+    meaning-later this_edition used_content used_records (used_standing this_edition) refl snapshot_meaning
 
 long_meaning : meaning_of this_edition long_content ≡ Some long_standing
 long_meaning =
@@ -397,7 +397,7 @@ filled_stands = record {
 
 again_meaning : meaning_of this_edition again_content ≡ Some filled_standing
 again_meaning =
-    meaning-anew this_edition filled_content filled_snapshot filled_standing refl
+    meaning-later this_edition filled_content filled_snapshot filled_standing refl
     (snapshot-stands filled_standing long_is_config filled_stands
     (λ an above. put-that (λ an. None) 0 an (Some own_sa) (omega (arith, above)))
     (λ sci an above.
@@ -583,7 +583,7 @@ spent_end = state_after_frame b0 (outgoing 9)
 
 -- the command in which the power goes is under way
 abbrev filled_end : State
-filled_end = state_with_in_hand spent_end stay_strict
+filled_end = state_with_under_way spent_end stay_strict
 
 abbrev c0 : State
 c0 = opened_state filled_standing spent_end.logs
@@ -699,7 +699,7 @@ fits_begun = record {
       inl (old_resumed this_edition up_to_this);
 }
 
--- while the journal starts over a power loss leaves the one or the other
+-- during the compaction a power loss leaves the one or the other
 fits_either : (image : Image) → HasEitherJournal used_content migrated_content image
     → Fits this_edition example_sectors image old_end
 fits_either image (inl found) = record {
@@ -713,7 +713,7 @@ fits_either image (inr found) = record {
   restart = inl (old_resumed this_edition up_to_this);
 }
 
-beginning_history : IsHolding beginning_disk (place_behind used_content) beginning_in_hand used_content migrated_content
+beginning_history : IsHolding beginning_disk (place_behind used_content) beginning_under_way used_content migrated_content
     → HasHistory this_edition beginning_disk old_lives
 beginning_history beginning = record {
   honest = refl;
@@ -724,7 +724,7 @@ beginning_history beginning = record {
     (Formatted old_end, (old_end, old_life example_sectors (omega arith), tt, refl), refl),
   );
   images = λ image left. fits_either image
-      (holding-image beginning_disk (place_behind used_content) beginning_in_hand used_content migrated_content
+      (holding-image beginning_disk (place_behind used_content) beginning_under_way used_content migrated_content
       beginning image left);
 }
 
@@ -858,7 +858,7 @@ module _ (peer : All (λ octet. octet < 2 ^ 8) (peer_frame 5)) where
     ),
   )
 
-  pub is-worked-migration : IsHolding beginning_disk (place_behind used_content) beginning_in_hand used_content
+  pub is-worked-migration : IsHolding beginning_disk (place_behind used_content) beginning_under_way used_content
       migrated_content → IsWorkedMigration
   is-worked-migration beginning = record {
     as_old = λ disk honest size settled. record { honest = honest; size = size; settled = settled };
@@ -869,7 +869,7 @@ module _ (peer : All (λ octet. octet < 2 ^ 8) (peer_frame 5)) where
     cut_short = beginning_history beginning;
     left_begun = left_begun;
     begun = begun_found;
-    anew = subst (λ (records : List Record). HasJournal migrated_image (compacted used_content records))
+    migrated = subst (λ (records : List Record). HasJournal migrated_image (compacted used_content records))
         (sym snapshot_is) migrated_found;
     moved = (refl, refl, migrated_found);
     alike = used_alike;

@@ -7,7 +7,7 @@ use Rattle.macs_txsc.specs.Transmit.{Outgoing}
 use Rattle.macs_rxsc.specs.Receive.{Numbers, first_numbers, numbers_after_delivery, numbers_after_hold}
 use Rattle.macs_store.specs.Standing.{new_standing}
 use Rattle.macs_endpoint.specs.Restart.{opened_state}
-use Rattle.macs_endpoint.specs.State.{State, no_logs, state_after_fault, state_with_in_hand}
+use Rattle.macs_endpoint.specs.State.{State, no_logs, state_after_fault, state_with_under_way}
 use Rattle.macs_endpoint.specs.Step.{state_after_command, state_after_delivery, state_after_frame, state_after_hold}
 use Rattle.macs_endpoint.specs.Step.{state_with_waiting, state_without_first}
 use Rattle.macs_endpoint.specs.declared.queue.Waiting.{Waiting}
@@ -69,7 +69,7 @@ abbrev pub s7 : State
 s7 = state_with_waiting s6 add_peer
 
 abbrev pub s8 : State
-s8 = state_with_in_hand s7 add_peer
+s8 = state_with_under_way s7 add_peer
 
 abbrev pub s9 : State
 s9 = state_after_frame s8 (outgoing 5)
@@ -109,7 +109,7 @@ abbrev pub s16 : State
 s16 = state_with_waiting s15 widen
 
 abbrev pub s17 : State
-s17 = state_with_in_hand s16 widen
+s17 = state_with_under_way s16 widen
 
 abbrev pub first_end : State
 first_end = state_after_frame s17 (outgoing 6)
@@ -147,7 +147,7 @@ abbrev pub t4 : State
 t4 = state_after_command t3 guard (config_after unguarded_config guard)
 
 abbrev pub second_end : State
-second_end = state_with_in_hand t4 remove_peer
+second_end = state_with_under_way t4 remove_peer
 
 -- ---- the third life
 
@@ -161,7 +161,7 @@ abbrev pub u2 : State
 u2 = state_after_frame u1 (outgoing 13)
 
 abbrev pub third_end : State
-third_end = state_after_fault (state_with_in_hand u2 check_only)
+third_end = state_after_fault (state_with_under_way u2 check_only)
 
 -- ---- the fourth life
 
@@ -172,7 +172,7 @@ abbrev pub v1 : State
 v1 = state_with_waiting v0 check_only
 
 abbrev pub fourth_end : State
-fourth_end = state_with_in_hand v1 check_only
+fourth_end = state_with_under_way v1 check_only
 
 -- what it is once the command under way was followed
 abbrev pub fourth_followed : State

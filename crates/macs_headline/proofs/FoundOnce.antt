@@ -104,12 +104,12 @@ made_with before without after exchanges command one made =
 
 pub finds-one : FindsOne
 finds-one = record {
-  none_in_hand = λ before a b exchanges one other. (
+  none_under_way = λ before a b exchanges one other. (
     made_once before.edition before.identity before.config (acknowledged_commands exchanges) a.config b.config
         (acknowledged_make before exchanges a one) (acknowledged_make before exchanges b other),
     one.identity ∙ sym other.identity,
   );
-  one_in_hand = λ before without after exchanges command one other. (
+  one_under_way = λ before without after exchanges command one other. (
     elim (with_one_more before exchanges command after other) [
       | inl same ↦ inl (made_once before.edition before.identity before.config (acknowledged_commands exchanges)
           after.config without.config

@@ -24,10 +24,10 @@ use Rattle.macs_endpoint.specs.declared.queue.Waiting.{Waiting}
 use Rattle.macs_endpoint.specs.Restart.{opened_state, state_taking_alone, state_taking_first}
 use Rattle.macs_endpoint.specs.State.{Advanced, AdvancedLong, Advances, Call, Commands, Protected, Protects, Ran}
 use Rattle.macs_endpoint.specs.State.{Received, Receives, Refilled, Refills, RefusedLong, Reply, State, Submits}
-use Rattle.macs_endpoint.specs.State.{Submitted, state_with_in_hand}
+use Rattle.macs_endpoint.specs.State.{Submitted, state_with_under_way}
 use Rattle.macs_endpoint.specs.Step.{AdvanceStep, CommandStep, Ends, Exchange, ProtectStep, ReceiveStep, RefillStep}
 use Rattle.macs_endpoint.specs.Step.{RunningStep, Step, Steps, SubmitStep, TakesUp}
-use Rattle.macs_headline.specs.Commands.{InHandWasGiven, WasHandedIn, failing, waiting_at_end}
+use Rattle.macs_headline.specs.Commands.{UnderWayWasGiven, WasHandedIn, failing, waiting_at_end}
 use Rattle.macs_headline.specs.History.{logs_of, state_at_end}
 use Rattle.macs_headline.proofs.Commands.{waits-from}
 use Rattle.macs_headline.proofs.Ledger.{some_one}
@@ -43,9 +43,9 @@ first_on [] ticket c d is = absurd (none_some d is)
 first_on (first ∷ rest) ticket c d is = is
 
 -- the first one that waits is under way after it is taken up
-taken_up : (old new : State) → TakesUp old new → first_command new.waiting ≡ new.in_hand
+taken_up : (old new : State) → TakesUp old new → first_command new.waiting ≡ new.under_way
 taken_up old new (first, rest, waiting, idle, accepts, is) =
-    ap (λ (s : State). first_command s.waiting) is ∙ ap first_command waiting ∙ sym (ap (λ (s : State). s.in_hand) is)
+    ap (λ (s : State). first_command s.waiting) is ∙ ap first_command waiting ∙ sym (ap (λ (s : State). s.under_way) is)
 
 -- ---- calls
 
@@ -54,20 +54,20 @@ module _ (Failed : Command → Type 0) where
   -- what is under way is the first that waits; or the endpoint is stopped, none waits, and `command` answered it with
   -- Disk
   abbrev IsHeld : State → Type 0
-  IsHeld s = (c : Command) → s.in_hand ≡ Some c
+  IsHeld s = (c : Command) → s.under_way ≡ Some c
       → (first_command s.waiting ≡ Some c) ⊎ ((s.stopped ≡ true) × (s.waiting ≡ []) × Failed c)
 
-  none_held : (s : State) → s.in_hand ≡ None → IsHeld s
+  none_held : (s : State) → s.under_way ≡ None → IsHeld s
   none_held s none c is = absurd (none_some c (sym none ∙ is))
 
-  first_held : (s : State) → first_command s.waiting ≡ s.in_hand → IsHeld s
+  first_held : (s : State) → first_command s.waiting ≡ s.under_way → IsHeld s
   first_held s first c is = inl (first ∙ is)
 
   same_held : (old new : State) → new ≡ old → IsHeld old → IsHeld new
   same_held old new is held = subst (λ (s : State). IsHeld s) (sym is) held
 
   -- an endpoint that ran has the same under way, and the same waits
-  alike : (old new : State) → old.stopped ≡ false → new.in_hand ≡ old.in_hand → new.waiting ≡ old.waiting → IsHeld old
+  alike : (old new : State) → old.stopped ≡ false → new.under_way ≡ old.under_way → new.waiting ≡ old.waiting → IsHeld old
       → IsHeld new
   alike old new running hand waiting held c is = elim (held c (sym hand ∙ is)) [
     | inl first ↦ inl (ap first_command waiting ∙ first)
@@ -82,13 +82,13 @@ module _ (Failed : Command → Type 0) where
   by_command : (old : State) (c : Command) (result : Result (Unit {0}) CommandFault) (new : State)
       → IsTold (Commands c) (Ran result)
       → CommandStep old c result new → IsHeld old → IsHeld new
-  by_command old c (Ok done) new told (none, makes) held = none_held new (ap (λ (s : State). s.in_hand) makes.2)
+  by_command old c (Ok done) new told (none, makes) held = none_held new (ap (λ (s : State). s.under_way) makes.2)
   by_command old c (Err ran.Stopped) new told h held = absurd h
   by_command old c (Err ran.Disk) new told (none, accepts, is) held =
       λ d hand. inr (
         ap (λ (s : State). s.stopped) is,
         ap (λ (s : State). s.waiting) is ∙ none,
-        subst Failed (some_one new.in_hand c d (ap (λ (s : State). s.in_hand) is) hand) told,
+        subst Failed (some_one new.under_way c d (ap (λ (s : State). s.under_way) is) hand) told,
       )
   by_command old c (Err ran.Busy) new told (some, is) held = same_held old new is held
   by_command old c (Err fault) new told h held = same_held old new h.2 held
@@ -98,14 +98,14 @@ module _ (Failed : Command → Type 0) where
   by_refill old (Ok done) new running (none, is) held = same_held old new is held
   by_refill old (Err refill.Stopped) new running h held = absurd h
   by_refill old (Err refill.Disk) new running (none, is) held =
-      alike old new running (ap (λ (s : State). s.in_hand) is) (ap (λ (s : State). s.waiting) is) held
+      alike old new running (ap (λ (s : State). s.under_way) is) (ap (λ (s : State). s.waiting) is) held
   by_refill old (Err fault) new running (none, is) held = same_held old new is held
 
   by_submit : (old : State) (c : Command) (result : Result ℕ SubmitFault) (new : State) → old.stopped ≡ false
       → SubmitStep old c result new
       → IsHeld old → IsHeld new
   by_submit old c (Ok ticket) new running (few, left, is_ticket, is) held =
-      λ d hand. elim (held d (sym (ap (λ (s : State). s.in_hand) is) ∙ hand)) [
+      λ d hand. elim (held d (sym (ap (λ (s : State). s.under_way) is) ∙ hand)) [
         | inl first ↦ inl
             (ap (λ (s : State). first_command s.waiting) is ∙ first_on old.waiting (old.tickets + 1) c d first)
         | inr stopped ↦ absurd (false≢true (sym running ∙ stopped.0))
@@ -117,11 +117,11 @@ module _ (Failed : Command → Type 0) where
   by_end : (old : State) (first : Waiting) (rest : List Waiting) (result : Result (Unit {0}) CommandFault) (new : State)
       → Ends old first rest result new
       → IsHeld new
-  by_end old first rest (Ok done) new makes = none_held new (ap (λ (s : State). s.in_hand) makes.2)
+  by_end old first rest (Ok done) new makes = none_held new (ap (λ (s : State). s.under_way) makes.2)
   by_end old first rest (Err (ran.Refused refusal)) new (idle, why, is) =
-      none_held new (ap (λ (s : State). s.in_hand) is)
+      none_held new (ap (λ (s : State). s.under_way) is)
   by_end old first rest (Err ran.GenerationsSpent) new (idle, accepts, is) =
-      none_held new (ap (λ (s : State). s.in_hand) is)
+      none_held new (ap (λ (s : State). s.under_way) is)
   by_end old first rest (Err fault) new h = absurd h
 
   by_advance : (old : State) (result : Result Progress StepFault) (new : State) → old.stopped ≡ false
@@ -131,10 +131,10 @@ module _ (Failed : Command → Type 0) where
   by_advance old (Ok (Done ticket result)) new running (first, rest, waiting, is_ticket, ends) held =
       by_end old first rest result new ends
   by_advance old (Err advance.Disk) new running (inl is) held =
-      alike old new running (ap (λ (s : State). s.in_hand) is) (ap (λ (s : State). s.waiting) is) held
+      alike old new running (ap (λ (s : State). s.under_way) is) (ap (λ (s : State). s.waiting) is) held
   by_advance old (Err advance.Disk) new running (inr (mid, takes, is)) held =
       first_held new (ap (λ (s : State). first_command s.waiting) is ∙ taken_up old mid takes
-      ∙ sym (ap (λ (s : State). s.in_hand) is))
+      ∙ sym (ap (λ (s : State). s.under_way) is))
   by_advance old (Err advance.Stopped) new running h held = absurd h
   by_advance old result new running is held = same_held old new is held
 
@@ -142,7 +142,7 @@ module _ (Failed : Command → Type 0) where
       → old.stopped ≡ false
       → ProtectStep old plain result out new → IsHeld old → IsHeld new
   by_protect old plain (Ok pn) out new running (none, (o, is_o, is_pn, is_out, is)) held =
-      alike old new running (ap (λ (s : State). s.in_hand) is) (ap (λ (s : State). s.waiting) is) held
+      alike old new running (ap (λ (s : State). s.under_way) is) (ap (λ (s : State). s.waiting) is) held
   by_protect old plain (Err (protect.Tx fault)) out new running (why, empty, is) held = same_held old new is held
   by_protect old plain (Err protect.Stopped) out new running h held = absurd h
 
@@ -152,9 +152,9 @@ module _ (Failed : Command → Type 0) where
   by_receive old frame (Ok verdict) out new running (inl (step, is_first, is_verdict, is_out, is)) held =
       same_held old new is held
   by_receive old frame (Ok verdict) out new running (inr (a, there, inl (is_verdict, above, is_out, is))) held =
-      alike old new running (ap (λ (s : State). s.in_hand) is) (ap (λ (s : State). s.waiting) is) held
+      alike old new running (ap (λ (s : State). s.under_way) is) (ap (λ (s : State). s.waiting) is) held
   by_receive old frame (Ok verdict) out new running (inr (a, there, inr (is_verdict, is_out, is))) held =
-      alike old new running (ap (λ (s : State). s.in_hand) is) (ap (λ (s : State). s.waiting) is) held
+      alike old new running (ap (λ (s : State). s.under_way) is) (ap (λ (s : State). s.waiting) is) held
   by_receive old frame (Err stopped) out new running h held = absurd h
 
   by_call : (old : State) (call : Call) (reply : Reply) (new : State) → IsTold call reply → old.stopped ≡ false
@@ -170,7 +170,7 @@ module _ (Failed : Command → Type 0) where
       by_receive old frame result out new running h held
   by_call old (Commands c) RefusedLong new told running (none, why, is) held = same_held old new is held
   by_call old Advances (AdvancedLong ticket) new told running (first, rest, waiting, is_ticket, (idle, why, is)) held =
-      none_held new (ap (λ (s : State). s.in_hand) is)
+      none_held new (ap (λ (s : State). s.under_way) is)
   by_call old call reply new told running h held = absurd h
 
   by_step : (old : State) (call : Call) (reply : Reply) (new : State) → IsTold call reply → Step old call reply new
@@ -197,24 +197,24 @@ module _ (Failed : Command → Type 0) where
 -- ---- the end of a life
 
 module _ (exchanges : List Exchange) (s : State) (waits : s.waiting ≡ waiting_at_end exchanges)
-    (held : (c : Command) → s.in_hand ≡ Some c
+    (held : (c : Command) → s.under_way ≡ Some c
     → (first_command s.waiting ≡ Some c)
     ⊎ ((s.stopped ≡ true) × (s.waiting ≡ []) × Contains exchanges (failing c))) where
   -- under way after the last answer
-  by_answers : (cut : Option Call) (c : Command) → s.in_hand ≡ Some c → WasHandedIn exchanges cut c
+  by_answers : (cut : Option Call) (c : Command) → s.under_way ≡ Some c → WasHandedIn exchanges cut c
   by_answers cut c is = elim (held c is) [
     | inl first ↦ inl (sym (ap first_command waits) ∙ first)
     | inr failed ↦ inr (sym waits ∙ failed.1, inl failed.2)
   ]
 
-  either_hand : (b : Bool) (d c : Command) → (cond b (state_with_in_hand s d) s).in_hand ≡ Some c
-      → (s.in_hand ≡ Some c) ⊎ (d ≡ c)
+  either_hand : (b : Bool) (d c : Command) → (cond b (state_with_under_way s d) s).under_way ≡ Some c
+      → (s.under_way ≡ Some c) ⊎ (d ≡ c)
   either_hand true d c is = inr (some_one (Some d) d c refl is)
   either_hand false d c is = inl is
 
   -- or taken in the call that is cut short
   alone_hand : (d : Command) (waiting : List Waiting) (c : Command) → s.waiting ≡ waiting
-      → (state_taking_alone s d waiting).in_hand ≡ Some c
+      → (state_taking_alone s d waiting).under_way ≡ Some c
       → WasHandedIn exchanges (Some (Commands d)) c
   alone_hand d [] c none is =
       elim (either_hand (not s.stopped && is_ok (apply s.edition s.identity s.config d)) d c is) [
@@ -223,8 +223,8 @@ module _ (exchanges : List Exchange) (s : State) (waits : s.waiting ≡ waiting_
       ]
   alone_hand d (first ∷ rest) c some is = by_answers (Some (Commands d)) c is
 
-  first_hand : (in_hand : Option Command) (waiting : List Waiting) (c : Command) → s.waiting ≡ waiting
-      → (state_taking_first s in_hand waiting).in_hand ≡ Some c
+  first_hand : (under_way : Option Command) (waiting : List Waiting) (c : Command) → s.waiting ≡ waiting
+      → (state_taking_first s under_way waiting).under_way ≡ Some c
       → WasHandedIn exchanges (Some Advances) c
   first_hand None [] c none is = by_answers (Some Advances) c is
   first_hand None (first ∷ rest) c waiting is =
@@ -235,17 +235,17 @@ module _ (exchanges : List Exchange) (s : State) (waits : s.waiting ≡ waiting_
       ]
   first_hand (Some d) waiting c some is = by_answers (Some Advances) c is
 
-  at_end : (cut : Option Call) (c : Command) → (state_at_end s cut).in_hand ≡ Some c → WasHandedIn exchanges cut c
+  at_end : (cut : Option Call) (c : Command) → (state_at_end s cut).under_way ≡ Some c → WasHandedIn exchanges cut c
   at_end None c is = by_answers None c is
   at_end (Some (Commands d)) c is = alone_hand d s.waiting c refl is
   at_end (Some Refills) c is = by_answers (Some Refills) c is
   at_end (Some (Submits d)) c is = by_answers (Some (Submits d)) c is
-  at_end (Some Advances) c is = first_hand s.in_hand s.waiting c refl is
+  at_end (Some Advances) c is = first_hand s.under_way s.waiting c refl is
   at_end (Some (Protects plain)) c is = by_answers (Some (Protects plain)) c is
   at_end (Some (Receives frame)) c is = by_answers (Some (Receives frame)) c is
 
-pub in-hand-was-given : (sectors : ℕ) → InHandWasGiven sectors
-in-hand-was-given sectors last m cut command is =
+pub under-way-was-given : (sectors : ℕ) → UnderWayWasGiven sectors
+under-way-was-given sectors last m cut command is =
     let begun = opened_state m.life.found (logs_of m.past) in
     let failed : Command → Type 0 = λ c. Contains m.exchanges (failing c) in
     at_end m.exchanges last (waits-from [] begun m.exchanges last refl m.life.steps)

@@ -20,7 +20,7 @@ pub mod FramesRead
 pub mod ShortLengths
 pub mod Ranges
 pub mod Deliveries
-pub mod CommandInHand
+pub mod CommandUnderWay
 pub mod Cuts
 pub mod Unbegun
 pub mod Losses
@@ -34,9 +34,9 @@ pub mod Chains
 pub mod Answered
 pub mod Configurations
 pub mod Moments
-pub mod BegunAnew
+pub mod Migrated
 pub mod Built
-pub mod BuiltAnew
+pub mod Later
 pub mod ExampleRecords
 pub mod ExampleImages
 pub mod ExampleCuts

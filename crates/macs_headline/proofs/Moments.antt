@@ -6,7 +6,7 @@ use Rattle.macs_config.specs.Config.{Edition, IsUpTo, this_edition}
 use Rattle.macs_disk.specs.Disk.{Disk, IsHonest, MayLeave, Works, now}
 use Rattle.macs_disk.specs.States.{Image, IsSound}
 use Rattle.macs_disk.proofs.Moments.{Works-on, Works-start}
-use Rattle.macs_endpoint.specs.Advancing.{Piece, ToKeep, ToRaise, next_piece}
+use Rattle.macs_endpoint.specs.Advancing.{Due, ToKeep, ToRaise, next_due}
 use Rattle.macs_endpoint.specs.Calls.{IsCall}
 use Rattle.macs_endpoint.specs.Lives.{Lives, Transition, exchange_of}
 use Rattle.macs_endpoint.specs.Ceilings.{Raise}
@@ -166,17 +166,17 @@ module _ {D : Type 0} (disk_of : D → Disk) (sound : (it : D) → IsHonest (dis
     found = living.same_found;
   }
 
-  none_is : (first : Waiting) → ◌≡◌ {A = Option Piece} None (Some (ToKeep first)) → ⊥
+  none_is : (first : Waiting) → ◌≡◌ {A = Option Due} None (Some (ToKeep first)) → ⊥
   none_is first is = cc
 
-  raise_is : (raise : Raise) (first : Waiting) → ◌≡◌ {A = Option Piece} (Some (ToRaise raise)) (Some (ToKeep first)) → ⊥
+  raise_is : (raise : Raise) (first : Waiting) → ◌≡◌ {A = Option Due} (Some (ToRaise raise)) (Some (ToKeep first)) → ⊥
   raise_is raise first is = cc
 
   some_raise : (raise : Raise) → ◌≡◌ {A = Option Raise} (Some raise) None → ⊥
   some_raise raise is = cc
 
   -- what a cut call leaves, by what it is, whether a ceiling is being raised, and what is next
-  covered_end : (call : Call) (reserving : Option Raise) (next : Option Piece) (new : D)
+  covered_end : (call : Call) (reserving : Option Raise) (next : Option Due) (new : D)
       → (((first : Waiting) → reserving ≡ None → next ≡ Some (ToKeep first) → ⊥) → call ≡ Advances
       → IsCovered sectors (Formatted (state_of last living.logs)) (disk_of new))
       → IsCovered sectors (Formatted (state_during (state_of last living.logs) call)) (disk_of new)
@@ -199,7 +199,7 @@ module _ {D : Type 0} (disk_of : D → Disk) (sound : (it : D) → IsHonest (dis
   covered_left None new (as_lived, same) =
       covered-life disk_of sound sectors h.past disk first turns last covered lived new same
   covered_left (Some call) new (as_lived, kept, reply, after, is, passed) =
-      covered_end call last.reserving (next_piece last) new
+      covered_end call last.reserving (next_due last) new
       (λ apart. covered-unbegun disk_of sound sectors h.past disk first turns last covered lived kept call reply after
       is new passed
       (λ keeps. apart keeps.0 keeps.1 keeps.2))

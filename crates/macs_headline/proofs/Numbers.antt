@@ -304,13 +304,13 @@ none_there : {X : Type 0} (o : Option X) → o ≡ None → IsSome o → ⊥
 none_there {X} o none is = false≢true (sym (ap (λ (x : Option X). is_some x) none) ∙ is)
 
 begins_tx : (s new : State) (an : ℕ) (key : Key) (start : ℕ) (confidential : Bool) (offset : ℕ) → Restart s new
-    → s.in_hand ≡ Some (TxInstall an key start confidential offset) → s.config.tx an ≡ None → IsSome (new.config.tx an)
+    → s.under_way ≡ Some (TxInstall an key start confidential offset) → s.config.tx an ≡ None → IsSome (new.config.tx an)
     → IsSomeAnd (new.next an) (λ later. IsSkipped s.identity.tx_block start later × (later ≤ 2 ^ 32))
 begins_tx s new an key start confidential offset (inl up) asked free is =
     absurd (none_there (new.config.tx an) (ap (λ (c : Config). c.tx an) up.config ∙ free) is)
 begins_tx s new an key start confidential offset (inr (c, mid, hand, makes, up)) asked free is =
     let one : c ≡ TxInstall an key start confidential offset =
-    some_one s.in_hand c (TxInstall an key start confidential offset) hand asked in
+    some_one s.under_way c (TxInstall an key start confidential offset) hand asked in
     let mid_next : mid.next an ≡ Some start =
     ap (λ (s : State). s.next an) makes.2 ∙ ap (λ (c : Command). next_after c s.next an) one
     ∙ put-this s.next an an (Some start) refl in
@@ -330,13 +330,13 @@ first_stay block start found (later, is_later, low, high) =
     is_later ∙ ap (λ (n : ℕ). Some (first_numbers n)) same
 
 begins_rx : (s found : State) (sci : List ℕ) (an : ℕ) (key : Key) (start offset : ℕ) → Restart s found
-    → s.in_hand ≡ Some (RxInstall sci an key start offset)
+    → s.under_way ≡ Some (RxInstall sci an key start offset)
     → s.config.rx sci an ≡ None → IsSome (found.config.rx sci an) → found.numbers sci an ≡ Some (first_numbers start)
 begins_rx s found sci an key start offset (inl up) asked free is =
     absurd (none_there (found.config.rx sci an) (ap (λ (c : Config). c.rx sci an) up.config ∙ free) is)
 begins_rx s found sci an key start offset (inr (c, mid, hand, makes, up)) asked free is =
     let one : c ≡ RxInstall sci an key start offset =
-    some_one s.in_hand c (RxInstall sci an key start offset) hand asked in
+    some_one s.under_way c (RxInstall sci an key start offset) hand asked in
     let mid_is : mid.numbers sci an ≡ Some (first_numbers start) =
     ap (λ (s : State). s.numbers sci an) makes.2 ∙ ap (λ (c : Command). numbers_after c s.numbers sci an) one
     ∙ put_rx-this s.numbers sci an sci an (Some (first_numbers start)) refl refl in

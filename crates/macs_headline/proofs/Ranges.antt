@@ -44,7 +44,7 @@ use Rattle.macs_endpoint.specs.Restart.{Restart, Resumes, TxRises, opened_state,
 use Rattle.macs_endpoint.specs.Restart.{state_taking_first}
 use Rattle.macs_endpoint.specs.State.{Advanced, AdvancedLong, Advances, Call, Commands, Protected, Protects, Ran}
 use Rattle.macs_endpoint.specs.State.{Received, Receives, Refilled, Refills, RefusedLong, Reply, State, Submits}
-use Rattle.macs_endpoint.specs.State.{Submitted, no_logs, state_with_in_hand, tx_side}
+use Rattle.macs_endpoint.specs.State.{Submitted, no_logs, state_with_under_way, tx_side}
 use Rattle.macs_endpoint.specs.Step.{AdvanceStep, CommandStep, Ends, Exchange, Makes, ProtectStep, ReceiveStep}
 use Rattle.macs_endpoint.specs.Step.{RefillStep, RunningStep, Step, Steps, SubmitStep, TakesUp, next_after}
 use Rattle.macs_endpoint.specs.Step.{state_without_first}
@@ -79,7 +79,7 @@ pub record IsRanged (edition : Edition) (s : State) : Type 0 where
   pub same : s.edition ≡ edition
   pub nexts : (an m : ℕ) → s.next an ≡ Some m → IsNext m
   pub channel : IsTxRanged s.identity s.config
-  pub hand : (c : Command) → s.in_hand ≡ Some c → IsCommand c
+  pub hand : (c : Command) → s.under_way ≡ Some c → IsCommand c
   pub queue : AreCommands s.waiting
 
 none_some : {X : Type 0} (o : Option X) (x : X) → o ≡ None → o ≡ Some x → ⊥
@@ -167,7 +167,7 @@ module _ (edition : Edition) where
     queue = ranged.queue;
   })
 
-  hand_range : (s : State) (c : Command) → IsCommand c → IsRanged edition s → IsRanged edition (state_with_in_hand s c)
+  hand_range : (s : State) (c : Command) → IsCommand c → IsRanged edition s → IsRanged edition (state_with_under_way s c)
   hand_range s c command ranged = record {
     same = ranged.same;
     nexts = ranged.nexts;
@@ -182,7 +182,7 @@ module _ (edition : Edition) where
   by_command old c (Ok done) new command (none, makes) ranged = makes_range old c new command makes ranged
   by_command old c (Err ran.Stopped) new command h ranged = absurd h
   by_command old c (Err ran.Disk) new command (none, accepts, is) ranged =
-      stopped_range (state_with_in_hand old c) new is (hand_range old c command ranged)
+      stopped_range (state_with_under_way old c) new is (hand_range old c command ranged)
   by_command old c (Err ran.Busy) new command (some, is) ranged = same_range old new is ranged
   by_command old c (Err fault) new command h ranged = same_range old new h.2 ranged
 
@@ -222,7 +222,7 @@ module _ (edition : Edition) where
 
   taken_up : (old new : State) → TakesUp old new → IsRanged edition old → IsRanged edition new
   taken_up old new (first, rest, waiting, idle, accepts, is) ranged =
-      same_range (state_with_in_hand old first.command) new is
+      same_range (state_with_under_way old first.command) new is
       (hand_range old first.command (first_command old first rest waiting ranged).0 ranged)
 
   -- it no longer waits
@@ -383,7 +383,7 @@ module _ (edition : Edition) where
 
   taking_range : (s : State) (c : Command) → IsCommand c → IsRanged edition s → IsRanged edition (state_taking s c)
   taking_range s c given ranged =
-      either_range (not s.stopped && is_ok (apply s.edition s.identity s.config c)) (state_with_in_hand s c) s
+      either_range (not s.stopped && is_ok (apply s.edition s.identity s.config c)) (state_with_under_way s c) s
       (hand_range s c given ranged) ranged
 
   alone_range : (s : State) (c : Command) (waiting : List Waiting) → IsCommand c → IsRanged edition s
@@ -391,9 +391,9 @@ module _ (edition : Edition) where
   alone_range s c [] given ranged = taking_range s c given ranged
   alone_range s c (first ∷ rest) given ranged = ranged
 
-  first_range : (s : State) (in_hand : Option Command) (waiting : List Waiting) → AreCommands waiting
+  first_range : (s : State) (under_way : Option Command) (waiting : List Waiting) → AreCommands waiting
       → IsRanged edition s
-      → IsRanged edition (state_taking_first s in_hand waiting)
+      → IsRanged edition (state_taking_first s under_way waiting)
   first_range s None [] are ranged = ranged
   first_range s None (first ∷ rest) are ranged = taking_range s first.command are.0 ranged
   first_range s (Some c) waiting are ranged = ranged
@@ -404,7 +404,7 @@ module _ (edition : Edition) where
   end_range s (Some (Commands c)) given ranged = alone_range s c s.waiting given ranged
   end_range s (Some Refills) given ranged = ranged
   end_range s (Some (Submits c)) given ranged = ranged
-  end_range s (Some Advances) given ranged = first_range s s.in_hand s.waiting ranged.queue ranged
+  end_range s (Some Advances) given ranged = first_range s s.under_way s.waiting ranged.queue ranged
   end_range s (Some (Protects plain)) given ranged = ranged
   end_range s (Some (Receives frame)) given ranged = ranged
 
@@ -432,7 +432,7 @@ resumes_range edition old new up ranged = record {
   );
   nexts = λ an m is.
       rises_range old.identity.tx_block (old.next an) (new.next an) m (up.next an) (λ n is. ranged.nexts an n is) is;
-  hand = λ c is. absurd (none_some new.in_hand c up.idle is);
+  hand = λ c is. absurd (none_some new.under_way c up.idle is);
   queue = subst AreCommands (sym up.waiting) tt;
 }
 

@@ -9,7 +9,7 @@ use Rattle.macs_config.specs.Identity.{Identity}
 use Rattle.macs_config.specs.declared.command.Command.{Command}
 use Rattle.macs_rxsc.specs.Receive.{Numbers, first_numbers}
 use Rattle.macs_endpoint.specs.State.{Advances, Call, Commands, Protects, Receives, Refills, State, Submits}
-use Rattle.macs_endpoint.specs.State.{state_with_in_hand}
+use Rattle.macs_endpoint.specs.State.{state_with_under_way}
 use Rattle.macs_endpoint.specs.Step.{Exchange, Steps}
 use Rattle.macs_endpoint.specs.Restart.{Restart, Resumes, RxRises, TxRises, state_during, state_taking}
 use Rattle.macs_endpoint.specs.Restart.{state_taking_alone, state_taking_first}
@@ -52,14 +52,14 @@ either_core false x y s is other = other
 
 taking_core : (s : State) (c : Command) → core (state_taking s c) ≡ core s
 taking_core s c =
-    either_core (not s.stopped && is_ok (apply s.edition s.identity s.config c)) (state_with_in_hand s c) s s refl refl
+    either_core (not s.stopped && is_ok (apply s.edition s.identity s.config c)) (state_with_under_way s c) s s refl refl
 
 alone_core : (s : State) (c : Command) (waiting : List Waiting) → core (state_taking_alone s c waiting) ≡ core s
 alone_core s c [] = taking_core s c
 alone_core s c (first ∷ rest) = refl
 
-first_core : (s : State) (in_hand : Option Command) (waiting : List Waiting)
-    → core (state_taking_first s in_hand waiting) ≡ core s
+first_core : (s : State) (under_way : Option Command) (waiting : List Waiting)
+    → core (state_taking_first s under_way waiting) ≡ core s
 first_core s None [] = refl
 first_core s None (first ∷ rest) = taking_core s first.command
 first_core s (Some c) waiting = refl
@@ -68,7 +68,7 @@ during_core : (s : State) (call : Call) → core (state_during s call) ≡ core 
 during_core s (Commands c) = alone_core s c s.waiting
 during_core s Refills = refl
 during_core s (Submits c) = refl
-during_core s Advances = first_core s s.in_hand s.waiting
+during_core s Advances = first_core s s.under_way s.waiting
 during_core s (Protects plain) = refl
 during_core s (Receives frame) = refl
 
@@ -83,15 +83,15 @@ either_edition false x y s is other = other
 
 taking_edition : (s : State) (c : Command) → (state_taking s c).edition ≡ s.edition
 taking_edition s c = either_edition (not s.stopped && is_ok (apply s.edition s.identity s.config c))
-    (state_with_in_hand s c) s s refl refl
+    (state_with_under_way s c) s s refl refl
 
 alone_edition : (s : State) (c : Command) (waiting : List Waiting)
     → (state_taking_alone s c waiting).edition ≡ s.edition
 alone_edition s c [] = taking_edition s c
 alone_edition s c (first ∷ rest) = refl
 
-first_edition : (s : State) (in_hand : Option Command) (waiting : List Waiting)
-    → (state_taking_first s in_hand waiting).edition ≡ s.edition
+first_edition : (s : State) (under_way : Option Command) (waiting : List Waiting)
+    → (state_taking_first s under_way waiting).edition ≡ s.edition
 first_edition s None [] = refl
 first_edition s None (first ∷ rest) = taking_edition s first.command
 first_edition s (Some c) waiting = refl
@@ -100,7 +100,7 @@ during_edition : (s : State) (call : Call) → (state_during s call).edition ≡
 during_edition s (Commands c) = alone_edition s c s.waiting
 during_edition s Refills = refl
 during_edition s (Submits c) = refl
-during_edition s Advances = first_edition s s.in_hand s.waiting
+during_edition s Advances = first_edition s s.under_way s.waiting
 during_edition s (Protects plain) = refl
 during_edition s (Receives frame) = refl
 

@@ -7,15 +7,15 @@ use Rattle.macs_config.specs.Config.{this_edition}
 use Rattle.macs_config.specs.declared.command.Command.{Command}
 use Rattle.macs_disk.specs.Disk.{Disk, IsHonest, LeftSince}
 use Rattle.macs_disk.specs.States.{DiskState, Image, IsImage}
-use Rattle.macs_endpoint.specs.Advancing.{BeginsWith, ClockAfter, GoesOn, Piece, ToKeep, ToRaise, next_piece}
-use Rattle.macs_endpoint.specs.Advancing.{piece_among}
+use Rattle.macs_endpoint.specs.Advancing.{BeginsWith, ClockAfter, GoesOn, Due, ToKeep, ToRaise, next_due}
+use Rattle.macs_endpoint.specs.Advancing.{due_among}
 use Rattle.macs_endpoint.specs.Calls.{IsCall}
 use Rattle.macs_endpoint.specs.Ceilings.{Raise}
 use Rattle.macs_endpoint.specs.Needed.{raise_in}
 use Rattle.macs_endpoint.specs.Queue.{first_waiting}
 use Rattle.macs_endpoint.specs.Restart.{Fits, state_during, state_taking_first}
 use Rattle.macs_endpoint.specs.State.{Advanced, AdvancedLong, Advances, Logs, Reply, State, state_after_fault}
-use Rattle.macs_endpoint.specs.State.{state_with_in_hand}
+use Rattle.macs_endpoint.specs.State.{state_with_under_way}
 use Rattle.macs_endpoint.specs.Step.{AdvanceStep, TakesUp}
 use Rattle.macs_endpoint.specs.Value.{EndpointValue, IsAtRest, IsBacked, IsKeeping, IsReserving, IsSoundEndpoint}
 use Rattle.macs_endpoint.specs.Value.{disk_in, is_stopped, state_of}
@@ -26,12 +26,12 @@ use Rattle.macs_endpoint.specs.declared.progress.Step.TheVariants.{Done, Idle, R
 use Rattle.macs_endpoint.specs.declared.queue.Waiting.{Waiting}
 use Rattle.macs_endpoint.specs.declared.turn.Turn.{Turn}
 use Rattle.macs_endpoint.specs.declared.turn.Turn.TheVariants as turn
-use Rattle.macs_headline.proofs.Cuts.{cut-call, fits_running, none_in_hand}
+use Rattle.macs_headline.proofs.Cuts.{cut-call, fits_running, none_under_way}
 
 -- a command that is taken up is under way
-takes_one : (s mid : State) → TakesUp s mid → mid.in_hand ≡ None → ⊥
+takes_one : (s mid : State) → TakesUp s mid → mid.under_way ≡ None → ⊥
 takes_one s mid (first, rest, waiting, idle, accepts, is) none =
-    none_in_hand first.command (sym none ∙ ap (λ (t : State). t.in_hand) is)
+    none_under_way first.command (sym none ∙ ap (λ (t : State). t.under_way) is)
 
 -- the state is as before, or stopped
 abbrev Stays : State → State → Type 0
@@ -44,14 +44,14 @@ raised_state : {D : Type 0} (old new : EndpointValue D) (logs later : Logs) (res
 raised_state old new logs later (Ok Idle) at goes step = absurd goes
 raised_state old new logs later (Ok Worked) at goes (inl same) = inl same
 raised_state old new logs later (Ok Worked) at goes (inr takes) =
-    absurd (takes_one (state_of old logs) (state_of new later) takes (goes.1 ∙ at.in_hand))
+    absurd (takes_one (state_of old logs) (state_of new later) takes (goes.1 ∙ at.under_way))
 raised_state old new logs later (Ok Reserved) at goes step = inl step
 raised_state old new logs later (Ok (Done ticket (Ok done))) at goes step =
-    absurd (none_in_hand goes.0.0 (sym at.in_hand ∙ goes.0.1))
+    absurd (none_under_way goes.0.0 (sym at.under_way ∙ goes.0.1))
 raised_state old new logs later (Ok (Done ticket (Err fault))) at goes step = absurd goes
 raised_state old new logs later (Err advance.Disk) at goes (inl same) = inr same
 raised_state old new logs later (Err advance.Disk) at goes (inr (mid, takes, is)) =
-    absurd (takes_one (state_of old logs) mid takes (ap (λ (s : State). s.in_hand) (sym is) ∙ goes ∙ at.in_hand))
+    absurd (takes_one (state_of old logs) mid takes (ap (λ (s : State). s.under_way) (sym is) ∙ goes ∙ at.under_way))
 raised_state old new logs later (Err fault) at goes step = absurd goes
 
 -- a step that begins to raise one
@@ -67,7 +67,7 @@ begun_state old new logs later raise (Ok Reserved) begins step = absurd begins
 begun_state old new logs later raise (Ok (Done ticket result)) begins step = absurd begins
 begun_state old new logs later raise (Err advance.Disk) begins (inl same) = inr same
 begun_state old new logs later raise (Err advance.Disk) begins (inr (mid, takes, is)) =
-    absurd (takes_one (state_of old logs) mid takes (ap (λ (s : State). s.in_hand) (sym is) ∙ begins))
+    absurd (takes_one (state_of old logs) mid takes (ap (λ (s : State). s.under_way) (sym is) ∙ begins))
 begun_state old new logs later raise (Err advance.GenerationsSpent) begins step = inl step
 begun_state old new logs later raise (Err advance.Stopped) begins step = absurd step
 
@@ -136,13 +136,13 @@ module _ {D : Type 0} (disk_of : D → Disk) (last after : EndpointValue D) (log
 -- ---- where a step takes nothing up by itself
 
 -- a command is under way, none waits, or the endpoint is stopped
-during_held : (s : State) (c : Command) (in_hand : Option Command) → in_hand ≡ Some c
-    → state_taking_first s in_hand s.waiting ≡ s
-during_held s c None is = absurd (none_in_hand c is)
+during_held : (s : State) (c : Command) (under_way : Option Command) → under_way ≡ Some c
+    → state_taking_first s under_way s.waiting ≡ s
+during_held s c None is = absurd (none_under_way c is)
 during_held s c (Some held) is = refl
 
-during_none : (s : State) (in_hand : Option Command) (waiting : List Waiting) → waiting ≡ []
-    → state_taking_first s in_hand waiting ≡ s
+during_none : (s : State) (under_way : Option Command) (waiting : List Waiting) → waiting ≡ []
+    → state_taking_first s under_way waiting ≡ s
 during_none s None [] is = refl
 during_none s None (first ∷ rest) is = absurd (cc)
 during_none s (Some held) waiting is = refl
@@ -151,17 +151,17 @@ stopped_takes : (stopped accepts : Bool) (a b : State) → stopped ≡ true → 
 stopped_takes true accepts a b is = refl
 stopped_takes false accepts a b is = absurd (cc)
 
-during_stopped : (s : State) (in_hand : Option Command) (waiting : List Waiting) → s.stopped ≡ true
-    → state_taking_first s in_hand waiting ≡ s
+during_stopped : (s : State) (under_way : Option Command) (waiting : List Waiting) → s.stopped ≡ true
+    → state_taking_first s under_way waiting ≡ s
 during_stopped s None [] is = refl
 during_stopped s None (first ∷ rest) is =
     stopped_takes s.stopped (is_ok (apply s.edition s.identity s.config first.command))
-    (state_with_in_hand s first.command) s is
+    (state_with_under_way s first.command) s is
 during_stopped s (Some held) waiting is = refl
 
--- where no piece of work is there, none waits
+-- where nothing is due, nothing waits
 none_there : (whose : Turn) (raise : Option Raise) (waiting : List Waiting)
-    → piece_among whose raise (first_waiting waiting) ≡ None → waiting ≡ []
+    → due_among whose raise (first_waiting waiting) ≡ None → waiting ≡ []
 none_there whose raise [] is = refl
 none_there whose None (first ∷ rest) is = absurd (cc)
 none_there turn.Reservation (Some raise) (first ∷ rest) is = absurd (cc)
@@ -175,7 +175,7 @@ stopped_or_not false = inr refl
 
 -- no ceiling is being raised, and to keep a command is next
 abbrev pub IsToKeep : {D : Type 0} → EndpointValue D → Type 0
-IsToKeep e = (first : Waiting) × (e.reserving ≡ None) × (next_piece e ≡ Some (ToKeep first))
+IsToKeep e = (first : Waiting) × (e.reserving ≡ None) × (next_due e ≡ Some (ToKeep first))
 
 module _ {D : Type 0} (disk_of : D → Disk) (last after : EndpointValue D) (logs : Logs) (sound : IsSoundEndpoint last)
     (honest : IsHonest (disk_in disk_of last)) (backed : IsBacked disk_of last) (reply : Reply)
@@ -190,35 +190,35 @@ module _ {D : Type 0} (disk_of : D → Disk) (last after : EndpointValue D) (log
       subst FitsBefore same (cut-call disk_of last after logs reply sound honest backed Advances is image left)
 
   -- it begins to raise a ceiling
-  by_raise : (raise : Raise) → IsAtRest last → next_piece last ≡ Some (ToRaise raise) → is_stopped last ≡ false
+  by_raise : (raise : Raise) → IsAtRest last → next_due last ≡ Some (ToRaise raise) → is_stopped last ≡ false
       → FitsBefore (state_of last logs)
   by_raise raise at next running =
       cut_still disk_of last after logs running honest backed image
       (λ result later call step.
       begun_state last after logs later raise result
-      (subst (λ (piece : Option Piece). BeginsWith last piece result after) next
+      (subst (λ (piece : Option Due). BeginsWith last piece result after) next
       ((call.behaves.advances running).begins at.store)) step)
       reply is left
 
   -- by what is next
-  by_piece : (piece : Option Piece) → next_piece last ≡ piece → IsAtRest last → (¬ IsToKeep last)
+  by_piece : (piece : Option Due) → next_due last ≡ piece → IsAtRest last → (¬ IsToKeep last)
       → FitsBefore (state_of last logs)
   by_piece None next at apart =
-      by_during (during_none (state_of last logs) last.in_hand last.waiting
+      by_during (during_none (state_of last logs) last.under_way last.waiting
       (none_there last.turn (raise_in last) last.waiting next))
   by_piece (Some (ToKeep first)) next at apart = absurd (apart (first, at.reserving, next))
   by_piece (Some (ToRaise raise)) next at apart = elim (stopped_or_not (is_stopped last)) [
-    | inl stopped ↦ by_during (during_stopped (state_of last logs) last.in_hand last.waiting stopped)
+    | inl stopped ↦ by_during (during_stopped (state_of last logs) last.under_way last.waiting stopped)
     | inr running ↦ by_raise raise at next running
   ]
 
   -- what a power loss at some moment of a step leaves that is not to keep a command
   pub cut-unbegun : (¬ IsToKeep last) → IsAtRest last ⊎ (IsReserving last ⊎ IsKeeping last)
       → FitsBefore (state_of last logs)
-  cut-unbegun apart (inl at) = by_piece (next_piece last) refl at apart
+  cut-unbegun apart (inl at) = by_piece (next_due last) refl at apart
   cut-unbegun apart (inr (inl at)) =
       cut_still disk_of last after logs at.running honest backed image
       (λ result later call step. raised_state last after logs later result
       at ((call.behaves.advances at.running).goes_on at.busy) step) reply is left
   cut-unbegun apart (inr (inr at)) =
-      by_during (during_held (state_of last logs) at.first.command last.in_hand at.in_hand)
+      by_during (during_held (state_of last logs) at.first.command last.under_way at.under_way)

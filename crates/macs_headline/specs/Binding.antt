@@ -18,7 +18,7 @@ use Rattle.macs_store.specs.Replay.{meaning_of}
 use Rattle.macs_store.specs.Snapshot.{snapshot}
 use Rattle.macs_store.specs.Standing.{Standing}
 use Rattle.macs_store.specs.Value.{generation, standing_in}
-use Rattle.macs_endpoint.specs.Advancing.{Piece, ToKeep, next_piece}
+use Rattle.macs_endpoint.specs.Advancing.{Due, ToKeep, next_due}
 use Rattle.macs_endpoint.specs.Calls.{IsCall}
 use Rattle.macs_endpoint.specs.Formatting.{IsFormat}
 use Rattle.macs_endpoint.specs.Lives.{Transition, exchange_of}
@@ -156,8 +156,8 @@ EndsAreCuts {D} disk_of = (old new : D) (first last : EndpointValue D) (turns : 
     × (before ++ turn ∷ rest ≡ turns) × Does disk_of old (Living first before mid (Some turn.call)) new)
 
 -- The call in which a life ends, if a command may begin in it. A step begins the first pending command only if no
--- ceiling is being raised and keeping that command is the next piece of work, by need and turn.
-abbrev pub cut_beginning : Option Call → Option Raise → Option Piece → Option Call
+-- ceiling is being raised and keeping that command is due next, by need and turn.
+abbrev pub cut_beginning : Option Call → Option Raise → Option Due → Option Call
 cut_beginning (Some Advances) None (Some (ToKeep first)) = Some Advances
 cut_beginning (Some Advances) reserving next = None
 cut_beginning cut reserving next = cut
@@ -165,7 +165,7 @@ cut_beginning cut reserving next = cut
 -- The state in which a life ends, after these logs: with the command under way that may have begun in the interrupted
 -- call
 abbrev pub state_left : {D : Type 0} → EndpointValue D → Logs → Option Call → State
-state_left e logs cut = state_at_end (state_of e logs) (cut_beginning cut e.reserving (next_piece e))
+state_left e logs cut = state_at_end (state_of e logs) (cut_beginning cut e.reserving (next_due e))
 
 -- Each image that the disk may leave after a life fits that state, to this edition and to each larger one: what is
 -- opened there is a restart of it.
@@ -206,9 +206,9 @@ abbrev pub IsUnwritten : Disk → Disk → Type 0
 IsUnwritten old new = (k : ℕ) → old.clock ≤ k → k ≤ new.clock
     → (new.past k ≡ now old) ⊎ (new.past k ≡ state_after_sync (now old))
 
--- A journal that was rewritten, once: in the other area, in the next generation and in format two, of the same
+-- A journal that was compacted, once: in the other area, in the next generation and in format two, of the same
 -- endpoint. Its records are those of a snapshot of what the journal before it represented, with its ceilings.
-pub record IsBegunAnew (before after : Content) (s : Standing) : Type 0 where
+pub record IsMigrated (before after : Content) (s : Standing) : Type 0 where
   pub area : after.area ≡ 1 - before.area
   pub generation : after.head.generation ≡ before.head.generation + 1
   pub format : after.head.format ≡ Two
@@ -227,7 +227,7 @@ StandsAsRead old image = (s : Standing) × StandsFor this_edition (now old).seen
 -- sync does. Nor does an opening of a disk with no journal to rewrite, regardless of its result. After Ok nothing is
 -- pending, each image is in format two, and a journal of format one was rewritten, which was not in the last
 -- generation. Each image is also in format two after a `format` that returns Ok, and after each call of an endpoint.
-pub record OpeningsBeginAnew {D : Type 0} (disk_of : D → Disk) : Type 0 where
+pub record OpeningsMigrate {D : Type 0} (disk_of : D → Disk) : Type 0 where
   pub alike : (disk : D) (result : Result (EndpointValue D) (RecoverRefused D)) → IsHonest (disk_of disk)
       → IsOpening disk_of disk result
       → (image : Image) → LeftSince (disk_after_opening disk_of result) (disk_of disk).clock image
@@ -239,7 +239,7 @@ pub record OpeningsBeginAnew {D : Type 0} (disk_of : D → Disk) : Type 0 where
       → c.head.generation ≢ 2 ^ 64 - 1 → (image : Image)
       → LeftSince (disk_after_opening disk_of result) (disk_of disk).clock image
       → MayLeave (disk_of disk) image
-      ⊎ (HasJournal image c ⊎ ((after : Content) × IsBegunAnew c after s × HasJournal image after))
+      ⊎ (HasJournal image c ⊎ ((after : Content) × IsMigrated c after s × HasJournal image after))
   pub unwritten : (disk : D) (result : Result (EndpointValue D) (RecoverRefused D)) → IsHonest (disk_of disk)
       → IsOpening disk_of disk result
       → HasFormat (now (disk_of disk)).seen Two → IsUnwritten (disk_of disk) (disk_after_opening disk_of result)
@@ -259,10 +259,10 @@ pub record OpeningsBeginAnew {D : Type 0} (disk_of : D → Disk) : Type 0 where
       → IsSettled (now (disk_in disk_of first))
   pub format : (disk : D) (first : EndpointValue D) → IsHonest (disk_of disk) → IsOpening disk_of disk (Ok first)
       → (image : Image) → MayLeave (disk_in disk_of first) image → HasFormat image Two
-  pub anew : (disk : D) (first : EndpointValue D) (c : Content) → IsHonest (disk_of disk)
+  pub migrated : (disk : D) (first : EndpointValue D) (c : Content) → IsHonest (disk_of disk)
       → IsOpening disk_of disk (Ok first)
       → HasJournal (now (disk_of disk)).seen c → c.head.format ≡ One
-      → (after : Content) × IsBegunAnew c after (standing_in first.store)
+      → (after : Content) × IsMigrated c after (standing_in first.store)
       × StandsFor this_edition (now (disk_of disk)).seen (standing_in first.store)
       × ((image : Image) → MayLeave (disk_in disk_of first) image
       → HasJournal image after × StandsFor this_edition image (standing_in first.store))

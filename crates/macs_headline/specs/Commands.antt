@@ -57,8 +57,8 @@ abbrev pub acknowledged_commands : List Exchange → List Command
 acknowledged_commands exchanges = acknowledged_from [] exchanges
 
 -- those whose work on the disk began: the acknowledged ones, and then the one under way at the end of the life, if any
-abbrev pub accepted_commands : List Exchange → (in_hand : Option Command) → List Command
-accepted_commands exchanges in_hand = acknowledged_commands exchanges ++ option_to_list in_hand
+abbrev pub accepted_commands : List Exchange → (under_way : Option Command) → List Command
+accepted_commands exchanges under_way = acknowledged_commands exchanges ++ option_to_list under_way
 
 -- ---- the command under way
 
@@ -83,9 +83,9 @@ WasHandedIn exchanges cut command =
     ⊎ ((waiting_at_end exchanges ≡ []) × (Contains exchanges (failing command) ⊎ (cut ≡ Some (Commands command))))
 
 -- At any moment at which a life ends, inside a call or not: what is under way was given to a call of that life.
-abbrev pub InHandWasGiven : ℕ → Type 0
-InHandWasGiven sectors = (last : State) (m : Moment sectors last) (cut : Option Call) (command : Command)
-    → (state_at_end last cut).in_hand ≡ Some command → WasHandedIn m.exchanges cut command
+abbrev pub UnderWayWasGiven : ℕ → Type 0
+UnderWayWasGiven sectors = (last : State) (m : Moment sectors last) (cut : Option Call) (command : Command)
+    → (state_at_end last cut).under_way ≡ Some command → WasHandedIn m.exchanges cut command
 
 -- ---- the effect of commands
 
@@ -103,22 +103,22 @@ IsPrefix {X} xs ys = (rest : List X) × (xs ++ rest ≡ ys)
 
 -- What is found after a life that itself found `before` and ended with this command under way, or none: the
 -- configuration after some of its commands, a prefix of those that were accepted which contains every acknowledged one.
-pub record FindsPrefix (before : Standing) (exchanges : List Exchange) (in_hand : Option Command)
+pub record FindsPrefix (before : Standing) (exchanges : List Exchange) (under_way : Option Command)
     (after : Standing) : Type 0 where
   pub identity : after.identity ≡ before.identity
   pub kept : List Command
   pub acknowledged : IsPrefix (acknowledged_commands exchanges) kept
-  pub accepted : IsPrefix kept (accepted_commands exchanges in_hand)
+  pub accepted : IsPrefix kept (accepted_commands exchanges under_way)
   pub made : CommandsMake before.edition before.identity before.config kept after.config
 
 -- If nothing was under way at its end, one configuration is found after a life, with one identity: each acknowledged
 -- command took effect, and no other did. If a command was under way, it is that configuration, or the one after the
 -- command.
 pub record FindsOne : Type 0 where
-  pub none_in_hand : (before a b : Standing) (exchanges : List Exchange) → FindsPrefix before exchanges None a
+  pub none_under_way : (before a b : Standing) (exchanges : List Exchange) → FindsPrefix before exchanges None a
       → FindsPrefix before exchanges None b
       → (a.config ≡ b.config) × (a.identity ≡ b.identity)
-  pub one_in_hand : (before without after : Standing) (exchanges : List Exchange) (command : Command)
+  pub one_under_way : (before without after : Standing) (exchanges : List Exchange) (command : Command)
       → FindsPrefix before exchanges None without
       → FindsPrefix before exchanges (Some command) after
       → ((after.config ≡ without.config)
@@ -131,4 +131,4 @@ abbrev pub CommandsKept : ℕ → Type 0
 CommandsKept sectors =
     (last : State) (m : Moment sectors last) (cut : Option Call) (later : Edition) (image : Image) (after : Standing)
     → Fits later sectors image (state_at_end last cut) → StandingIs later sectors image (Ok after)
-    → FindsPrefix m.life.found m.exchanges (state_at_end last cut).in_hand after
+    → FindsPrefix m.life.found m.exchanges (state_at_end last cut).under_way after

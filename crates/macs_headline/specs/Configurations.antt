@@ -8,7 +8,7 @@ use Rattle.macs_store.specs.Found.{StandingIs}
 use Rattle.macs_store.specs.Standing.{Standing}
 use Rattle.macs_endpoint.specs.State.{Call, State}
 use Rattle.macs_endpoint.specs.Step.{Exchange}
-use Rattle.macs_headline.specs.CommandInHand.{WasBegun}
+use Rattle.macs_headline.specs.CommandUnderWay.{WasBegun}
 use Rattle.macs_headline.specs.Commands.{CommandsMake, IsPrefix, WasHandedIn, accepted_commands, acknowledged_commands}
 use Rattle.macs_headline.specs.History.{Formats, Life, Past, Refuses, Serves, state_at_end}
 use Rattle.macs_headline.specs.Moments.{IsFoundAfter, Moment}
@@ -24,12 +24,12 @@ pub record AreKept (sectors : ℕ) (edition : Edition) (image : Image) (exchange
   pub of_edition : moment.edition ≡ edition
   pub opened : moment.image ≡ image
   pub answered : moment.exchanges ≡ exchanges
-  pub in_hand : Option Command
-  pub at_end : in_hand ≡ (state_at_end last cut).in_hand
-  pub begun : (command : Command) → in_hand ≡ Some command → WasBegun exchanges last cut command
-  pub handed_in : (command : Command) → in_hand ≡ Some command → WasHandedIn exchanges cut command
+  pub under_way : Option Command
+  pub at_end : under_way ≡ (state_at_end last cut).under_way
+  pub begun : (command : Command) → under_way ≡ Some command → WasBegun exchanges last cut command
+  pub handed_in : (command : Command) → under_way ≡ Some command → WasHandedIn exchanges cut command
   pub acknowledged : IsPrefix (acknowledged_commands exchanges) kept
-  pub accepted : IsPrefix kept (accepted_commands exchanges in_hand)
+  pub accepted : IsPrefix kept (accepted_commands exchanges under_way)
 
 -- on a disk of this many sectors this image represents the configuration
 abbrev pub StandsFor : ℕ → Edition → Image → Config → Type 0

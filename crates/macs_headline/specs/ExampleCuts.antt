@@ -12,8 +12,8 @@ use Rattle.macs_journal.specs.Compacting.{next_head}
 use Rattle.macs_journal.specs.Found.{Content}
 use Rattle.macs_journal.specs.declared.appending.AppendStage.TheVariants.{GateSync}
 use Rattle.macs_journal.specs.declared.compact_stage.CompactStage.TheVariants.{Body}
-use Rattle.macs_journal.specs.declared.hand.Hand.{Hand}
-use Rattle.macs_journal.specs.declared.hand.Hand.TheVariants as hand
+use Rattle.macs_journal.specs.declared.under_way.UnderWay.{UnderWay}
+use Rattle.macs_journal.specs.declared.under_way.UnderWay.TheVariants as under_way
 use Rattle.macs_journal.specs.declared.place.Place.{Place}
 use Rattle.macs_headline.specs.Example.{example_sectors}
 use Rattle.macs_headline.specs.ExampleDisk.{checked, narrow_content, narrow_image, full_content, full_image}
@@ -51,8 +51,8 @@ append_states image c r (suc (suc (suc n))) =
     state_after_write (settled_state (image_with_next_body image c r)) (free_gate c) open_gate
 
 -- what is under way then: the remaining call makes the gate durable
-abbrev pub append_in_hand : Record → Hand
-append_in_hand r = hand.Append (record { sector = sector_of r; stage = GateSync })
+abbrev pub append_under_way : Record → UnderWay
+append_under_way r = under_way.Append (record { sector = sector_of r; stage = GateSync })
 
 -- power fails between two steps of `widen`
 abbrev pub widening_disk : Disk
@@ -85,8 +85,8 @@ body_writes area place (r ∷ rs) =
     record { at = slot_body area place; octets = sector_of r } ∷ body_writes area (place + 1) rs
 
 -- what is written in the other area before its head gate: the body of the next head, and those of the snapshot
-abbrev pub writes_anew : Content → List Record → List Write
-writes_anew c records =
+abbrev pub compaction_writes : Content → List Record → List Write
+compaction_writes c records =
     record { at = head_body (other_area c.area); octets = head_sector_of (next_head c.head (length records)) }
     ∷ body_writes (other_area c.area) 0 records
 
@@ -94,15 +94,15 @@ writes_anew c records =
 -- first device call, and after `calls` of them. 257 reads of gates and a sync change nothing. Then each call writes.
 abbrev pub compaction_states : Image → Content → List Record → (calls : ℕ) → DiskState
 compaction_states image c records calls =
-    state_after_writes (settled_state image) (take (calls - 258) (writes_anew c records))
+    state_after_writes (settled_state image) (take (calls - 258) (compaction_writes c records))
 
 -- power fails in the compaction of the full area, after three bodies are written
 abbrev pub compacting_disk : Disk
 compacting_disk = disk_through (compaction_states full_image full_content full_snapshot) 261
 
 -- what is under way then: the next call writes the snapshot's third body
-abbrev pub compaction_in_hand : Hand
-compaction_in_hand = hand.Compact (record { head = next_head full_content.head (length full_snapshot); stage = Body 2 })
+abbrev pub compaction_under_way : UnderWay
+compaction_under_way = under_way.Compact (record { head = next_head full_content.head (length full_snapshot); stage = Body 2 })
 
 -- What a power loss may leave then: any 512 octets in each of the three sectors.
 abbrev pub torn_image : (head first second : List ℕ) → Image

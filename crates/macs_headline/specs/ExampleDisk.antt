@@ -86,12 +86,12 @@ cut_image count = image_while_compacted full_image full_content (length full_sna
 -- ---- after the third life
 
 -- the rewritten journal, in generation 2
-abbrev pub anew_content : Content
-anew_content = compacted full_content full_snapshot
+abbrev pub compacted_content : Content
+compacted_content = compacted full_content full_snapshot
 
 -- its image, over what the interrupted rewrite had left
-abbrev pub anew_image : Image
-anew_image = compacted_image (cut_image 2) full_content full_snapshot
+abbrev pub later_image : Image
+later_image = compacted_image (cut_image 2) full_content full_snapshot
 
 -- a command, and a raised ceiling
 abbrev pub third_records : List Record
@@ -99,11 +99,11 @@ third_records = kept.RxRemove peer_sci 0 ∷ kept.TxCeiling 0 17 ∷ []
 
 -- the journal with them
 abbrev pub last_content : Content
-last_content = content_with_records anew_content third_records
+last_content = content_with_records compacted_content third_records
 
 -- its image
 abbrev pub last_image : Image
-last_image = image_with_records anew_image anew_content third_records
+last_image = image_with_records later_image compacted_content third_records
 
 -- ---- after the fourth life
 

@@ -30,9 +30,9 @@ use Rattle.macs_headline.specs.Example.{add_peer, check_only, example_identity, 
 use Rattle.macs_headline.specs.Example.{install_own, install_own_again, install_peer, install_peer_again, later_edition}
 use Rattle.macs_headline.specs.Example.{narrow, own_frame, own_key, peer_frame, peer_key, peer_sci, remove_peer}
 use Rattle.macs_headline.specs.Example.{stay_strict, unguard, use_own, widen}
-use Rattle.macs_headline.specs.ExampleCuts.{IsRun, append_in_hand, compacting_disk, compaction_in_hand, killed_disk}
+use Rattle.macs_headline.specs.ExampleCuts.{IsRun, append_under_way, compacting_disk, compaction_under_way, killed_disk}
 use Rattle.macs_headline.specs.ExampleCuts.{place_behind, torn_image, widening_disk, working_disk}
-use Rattle.macs_headline.specs.ExampleDisk.{anew_content, anew_image, checked, cut_image, ended_content, ended_image}
+use Rattle.macs_headline.specs.ExampleDisk.{compacted_content, later_image, checked, cut_image, ended_content, ended_image}
 use Rattle.macs_headline.specs.ExampleDisk.{narrow_content, narrow_image, full_content, last_content, last_image}
 use Rattle.macs_headline.specs.ExampleDisk.{new_image, served_content, served_image, widened}
 use Rattle.macs_headline.specs.ExampleStanding.{checked_standing, full_standing, last_standing}
@@ -168,18 +168,18 @@ pub record IsWorkedHistory : Type 0 where
   pub history : IsHistory example_sectors example_lives (Formatted last)
   pub used : last.logs.used ≡ map own_use (17 ∷ 13 ∷ 9 ∷ 6 ∷ 5 ∷ 4 ∷ 3 ∷ 2 ∷ 1 ∷ [])
   pub given : last.logs.given ≡ map peer_delivery (Delayed ∷ AsOk ∷ AsOk ∷ [])
-  pub widening : IsHolding widening_disk (place_behind narrow_content) (append_in_hand widened) narrow_content
+  pub widening : IsHolding widening_disk (place_behind narrow_content) (append_under_way widened) narrow_content
       served_content
   pub widening_calls : IsRun narrow_image widening_disk
   pub left_open : MayLeave widening_disk served_image
   pub full : length full_content.records ≡ slots
-  pub compacting : IsHolding compacting_disk (place_behind full_content) compaction_in_hand full_content anew_content
+  pub compacting : IsHolding compacting_disk (place_behind full_content) compaction_under_way full_content compacted_content
   pub torn : (head first second : List ℕ) → IsSector head → IsSector first → IsSector second
       → MayLeave compacting_disk (torn_image head first second)
   pub left_torn : MayLeave compacting_disk (cut_image 2)
   pub cut : (count : ℕ) → StandsFor this_edition (cut_image count) full_standing
-  pub anew : (anew_content.area ≡ 1) × (anew_content.head.generation ≡ 2) × HasJournal anew_image anew_content
-  pub working : IsHolding working_disk (place_behind last_content) (append_in_hand checked) last_content ended_content
+  pub compacted : (compacted_content.area ≡ 1) × (compacted_content.head.generation ≡ 2) × HasJournal later_image compacted_content
+  pub working : IsHolding working_disk (place_behind last_content) (append_under_way checked) last_content ended_content
   pub working_calls : IsRun last_image working_disk
   pub killed : IsPassedOn working_disk working_disk.clock killed_disk
   pub pending : (now killed_disk).pending (free_gate last_content) ≡ true

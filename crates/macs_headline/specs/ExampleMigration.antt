@@ -23,8 +23,8 @@ use Rattle.macs_journal.specs.Formatting.{first_head}
 use Rattle.macs_journal.specs.Found.{Content, HasJournal}
 use Rattle.macs_journal.specs.Value.{IsHolding}
 use Rattle.macs_journal.specs.declared.compact_stage.CompactStage.TheVariants.{Body}
-use Rattle.macs_journal.specs.declared.hand.Hand.{Hand}
-use Rattle.macs_journal.specs.declared.hand.Hand.TheVariants as hand
+use Rattle.macs_journal.specs.declared.under_way.UnderWay.{UnderWay}
+use Rattle.macs_journal.specs.declared.under_way.UnderWay.TheVariants as under_way
 use Rattle.macs_rxsc.specs.declared.verdict.Kind.TheVariants.{Ok as AsOk}
 use Rattle.macs_rxsc.specs.declared.verdict.Verdict.TheVariants.{Delivered, HeldBack}
 use Rattle.macs_store.specs.Found.{StandingIs, IsToMigrate, StandAlike}
@@ -123,8 +123,8 @@ abbrev pub beginning_disk : Disk
 beginning_disk = disk_through (compaction_states used_image used_content used_records) 261
 
 -- what is under way then: the next call writes the snapshot's third body
-abbrev pub beginning_in_hand : Hand
-beginning_in_hand = hand.Compact (record { head = next_head used_content.head (length used_records); stage = Body 2 })
+abbrev pub beginning_under_way : UnderWay
+beginning_under_way = under_way.Compact (record { head = next_head used_content.head (length used_records); stage = Body 2 })
 
 -- the next opening completes that: the journal is in the second area, in format two
 abbrev pub migrated_content : Content
@@ -245,11 +245,11 @@ pub record IsWorkedMigration : Type 0 where
   pub formatted : (disk : Disk) → IsOldDisk disk → HasHistory first_edition disk old_lives
   pub ours : (disk : Disk) → IsOldDisk disk → HasHistory this_edition disk old_lives
   pub old : IsToMigrate this_edition used_image used_content (used_standing this_edition)
-  pub beginning : IsHolding beginning_disk (place_behind used_content) beginning_in_hand used_content migrated_content
+  pub beginning : IsHolding beginning_disk (place_behind used_content) beginning_under_way used_content migrated_content
   pub cut_short : HasHistory this_edition beginning_disk old_lives
   pub left_begun : MayLeave beginning_disk begun_image
   pub begun : HasJournal begun_image used_content
-  pub anew : HasJournal migrated_image (compacted used_content (snapshot (used_standing this_edition)))
+  pub migrated : HasJournal migrated_image (compacted used_content (snapshot (used_standing this_edition)))
   pub moved : (migrated_content.area ≡ 1) × (migrated_content.head.format ≡ Two)
       × HasJournal migrated_image migrated_content
   pub alike : StandAlike this_edition used_image migrated_image

@@ -9,7 +9,7 @@ pub mod Deliveries
 pub mod Windows
 pub mod Changing
 pub mod Refused
-pub mod CommandInHand
+pub mod CommandUnderWay
 pub mod Openings
 pub mod Formats
 pub mod Deeds

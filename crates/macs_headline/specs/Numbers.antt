@@ -128,10 +128,10 @@ abbrev pub BeginAsAsked : ℕ → Type 0
 BeginAsAsked sectors = (s : State) (edition : Edition) (image : Image) (found : Standing) → Fits edition sectors image s
     → StandingIs edition sectors image (Ok found)
     → ((an : ℕ) (key : Key) (start : ℕ) (confidential : Bool) (offset : ℕ)
-    → s.in_hand ≡ Some (TxInstall an key start confidential offset)
+    → s.under_way ≡ Some (TxInstall an key start confidential offset)
     → s.config.tx an ≡ None → IsSome (found.config.tx an)
     → IsSomeAnd ((opened_state found s.logs).next an)
     (λ later. IsSkipped s.identity.tx_block start later × (later ≤ 2 ^ 32)))
-    × ((sci : List ℕ) (an : ℕ) (key : Key) (start offset : ℕ) → s.in_hand ≡ Some (RxInstall sci an key start offset)
+    × ((sci : List ℕ) (an : ℕ) (key : Key) (start offset : ℕ) → s.under_way ≡ Some (RxInstall sci an key start offset)
     → s.config.rx sci an ≡ None → IsSome (found.config.rx sci an)
     → (opened_state found s.logs).numbers sci an ≡ Some (record { next = start; lowest = start; seen = None }))

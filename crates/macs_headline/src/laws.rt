@@ -21,12 +21,12 @@ ghost use Rattle.macs_headline.specs.Binding.{IsNewDisk};
 ghost use Rattle.macs_headline.specs.Binding.{LargerFind, LargerGoOn};
 ghost use Rattle.macs_headline.specs.Binding.{LivesAreMoments, LivesFit};
 ghost use Rattle.macs_headline.specs.Binding.{HistoriesFit};
-ghost use Rattle.macs_headline.specs.Binding.{NewDeedsAreHistories, OpeningsBeginAnew};
+ghost use Rattle.macs_headline.specs.Binding.{NewDeedsAreHistories, OpeningsMigrate};
 ghost use Rattle.macs_headline.specs.Binding.{NewDisksHaveHistories, OpeningsFind};
 ghost use Rattle.macs_headline.specs.Binding.{PassedOnHaveHistories, RefusalsAreFailures};
 ghost use Rattle.macs_headline.specs.Binding.{SettledHaveHistories};
 ghost use Rattle.macs_headline.specs.Changing.{IsFirstConfiguration};
-ghost use Rattle.macs_headline.specs.Commands.{CommandsKept, FindsOne, InHandWasGiven};
+ghost use Rattle.macs_headline.specs.Commands.{CommandsKept, FindsOne, UnderWayWasGiven};
 ghost use Rattle.macs_headline.specs.Configurations.{ConfigurationIs};
 ghost use Rattle.macs_headline.specs.Deliveries.{DeliveredBelow, DeliveriesAreVerified, GivenOnce};
 ghost use Rattle.macs_headline.specs.Deliveries.{NeverOkAgain, OthersAreBare};
@@ -105,7 +105,7 @@ pub fn headline()
     // after the command.
     ensures finds_one { FindsOne }
     // What is under way when a life ends was given to a call of that life.
-    ensures in_hand_was_given { (sectors : ℕ) → InHandWasGiven sectors }
+    ensures under_way_was_given { (sectors : ℕ) → UnderWayWasGiven sectors }
     // Over all lives: it finds what the kept commands of each make of the first configuration, and
     // the identity given to the `format` that returned Ok.
     ensures configuration_is { (sectors : ℕ) → ConfigurationIs sectors }
@@ -199,7 +199,7 @@ pub fn histories<D: SectorDisk>()
     // An opening of a journal of format two writes nothing, nor does one that is refused because of
     // what is on the disk. A journal of format one is rewritten, once, and the standing that it
     // represents stays the same, wherever that is interrupted.
-    ensures begun_anew { OpeningsBeginAnew D.disk }
+    ensures migrated { OpeningsMigrate D.disk }
     // What is left after it is opened as a restart of the state in which it ended, with the command
     // that the interrupted call may have begun.
     ensures fit { LivesFit D.disk }

@@ -16,20 +16,20 @@ use Rattle.macs_journal.specs.declared.appending.AppendStage.{AppendStage}
 use Rattle.macs_journal.specs.declared.compact_stage.CompactStage.{CompactStage}
 use Rattle.macs_journal.specs.declared.fault.JournalFault.{JournalFault}
 use Rattle.macs_journal.specs.declared.fault.JournalFault.TheVariants.{Disk}
-use Rattle.macs_journal.specs.declared.hand.Appending.{Appending}
-use Rattle.macs_journal.specs.declared.hand.Compacting.{Compacting}
-use Rattle.macs_journal.specs.declared.hand.Hand.{Hand}
-use Rattle.macs_journal.specs.declared.hand.Hand.TheVariants.{Append, Compact, Empty}
+use Rattle.macs_journal.specs.declared.under_way.Appending.{Appending}
+use Rattle.macs_journal.specs.declared.under_way.Compacting.{Compacting}
+use Rattle.macs_journal.specs.declared.under_way.UnderWay.{UnderWay}
+use Rattle.macs_journal.specs.declared.under_way.UnderWay.TheVariants.{Append, Compact, Nothing}
 use Rattle.macs_journal.specs.declared.place.Place.{Place}
-use Rattle.macs_journal.proofs.Anew.{anew-done, anew-leaves, anew-next, new_place}
+use Rattle.macs_journal.proofs.CompactionCalls.{compaction-done, compaction-leaves, compaction-next, new_place}
 use Rattle.macs_journal.proofs.Holding.{GoesOn, LeavesEither, OfEachAppend, is-busy, on_ok, step-done, step-gate}
 use Rattle.macs_journal.proofs.Holding.{step-leaves, step-next}
 use Rattle.macs_journal.proofs.Stages.{some-left}
 use Rattle.macs_journal.proofs.Working.{called, done-call}
 
 -- a journal, by what it keeps
-abbrev journal_of : {D : Type 0} → D → Place → Hand → Bool → JournalValue D
-journal_of device place hand stopped = record { disk = device; place = place; hand = hand; stopped = stopped }
+abbrev journal_of : {D : Type 0} → D → Place → UnderWay → Bool → JournalValue D
+journal_of device place under_way stopped = record { disk = device; place = place; under_way = under_way; stopped = stopped }
 
 -- what `perform` answers: the call that comes next, or a fault
 abbrev then_comes : {Stage : Type 0} → Option Stage → Result (Option Stage) DeviceFault
@@ -76,17 +76,17 @@ module _ {D : Type 0} (disk_of : D → disk.Disk) (device later : D) (place : Pl
           step-next _ _ place (Append work) work next stage before after refl is holding (comes honest);
       left = subst (λ (n : Option AppendStage). calls_left n + 1 ≡ calls_left (Some work.stage)) is left;
       place = λ busy. refl;
-      moved = λ idle. absurd (let not : Append (record work { stage = stage }) ≡ Empty = idle in cc);
+      moved = λ idle. absurd (let not : Append (record work { stage = stage }) ≡ Nothing = idle in cc);
       task = λ busy. refl;
       at_fault = tt;
       others = others;
-      opened = λ idle. absurd (let not : Append (record work { stage = stage }) ≡ Empty = idle in cc);
+      opened = λ idle. absurd (let not : Append (record work { stage = stage }) ≡ Nothing = idle in cc);
     }
 
     -- the record is there
     pub append-ends : next ≡ None
         → AdvancesAppend disk_of (journal_of device place (Append work) false) went
-        (journal_of later (record place { free = place.free + 1 }) Empty false)
+        (journal_of later (record place { free = place.free + 1 }) Nothing false)
     append-ends is = record {
       names = tt;
       work = record { works = call.work.works; fails = call.work.ok };
@@ -113,7 +113,7 @@ module _ {D : Type 0} (disk_of : D → disk.Disk) (device later : D) (place : Pl
   -- the call failed
   pub append-stops : (fault : DeviceFault)
       → disk.IsDeviceCall (disk_of device) (disk_of later) (faulty {Stage = AppendStage} fault)
-      → AdvancesAppend disk_of (journal_of device place (Append work) false) broke (journal_of later place Empty true)
+      → AdvancesAppend disk_of (journal_of device place (Append work) false) broke (journal_of later place Nothing true)
   append-stops fault call = record {
     names = refl;
     work = record { works = call.work.works; fails = call.work.err };
@@ -136,34 +136,34 @@ module _ {D : Type 0} (disk_of : D → disk.Disk) (device later : D) (place : Pl
   }
 
 -- as many calls are left of an append as of any work
-left-same : (hand : Hand) → IsNoCompact hand → left_of hand ≡ append_left hand
-left-same Empty is = refl
+left-same : (under_way : UnderWay) → IsNoCompact under_way → left_of under_way ≡ append_left under_way
+left-same Nothing is = refl
 left-same (Append work) is = refl
 left-same (Compact work) is = absurd is
 
-still-busy : (hand : Hand) → IsNoCompact hand → ¬ (hand ≡ Empty) → 1 ≤ append_left hand
-still-busy Empty is busy = absurd (busy refl)
+still-busy : (under_way : UnderWay) → IsNoCompact under_way → ¬ (under_way ≡ Nothing) → 1 ≤ append_left under_way
+still-busy Nothing is busy = absurd (busy refl)
 still-busy (Append work) is busy = is-busy work
 still-busy (Compact work) is busy = absurd is
 
 -- no records are asked of it
-lent-none : (hand : Hand) → IsNoCompact hand → (records : List Record) → AreLent hand records
-lent-none Empty is records = tt
+lent-none : (under_way : UnderWay) → IsNoCompact under_way → (records : List Record) → AreLent under_way records
+lent-none Nothing is records = tt
 lent-none (Append work) is records = tt
 lent-none (Compact work) is records = absurd is
 
-made-none : (hand : Hand) → IsNoCompact hand → (records : List Record) (before after : Content)
-    → IsMadeOf hand records before after
-made-none Empty is records before after = tt
+made-none : (under_way : UnderWay) → IsNoCompact under_way → (records : List Record) (before after : Content)
+    → IsMadeOf under_way records before after
+made-none Nothing is records before after = tt
 made-none (Append work) is records before after = tt
 made-none (Compact work) is records before after = absurd is
 
 -- so it advances with any that are lent
 module _ {D : Type 0} (disk_of : D → disk.Disk) (old new : JournalValue D) (records : List Record)
     (result : Result (Unit {0}) JournalFault)
-    (work : Appending) (hand_is : old.hand ≡ Append work) (advances : AdvancesAppend disk_of old result new) where
-  was : left_of old.hand ≡ append_left old.hand
-  was = left-same old.hand (subst IsNoCompact (sym hand_is) tt)
+    (work : Appending) (under_way_is : old.under_way ≡ Append work) (advances : AdvancesAppend disk_of old result new) where
+  was : left_of old.under_way ≡ append_left old.under_way
+  was = left-same old.under_way (subst IsNoCompact (sym under_way_is) tt)
 
   pub append-advances : Advances disk_of old records result new
   append-advances = record {
@@ -174,16 +174,16 @@ module _ {D : Type 0} (disk_of : D → disk.Disk) (old new : JournalValue D) (re
     one = advances.one;
     call = advances.call;
     idle = advances.idle;
-    left = on_ok result (λ less. let before = was in let is = left-same new.hand advances.no_compact in
+    left = on_ok result (λ less. let before = was in let is = left-same new.under_way advances.no_compact in
         omega (arith, less, before, is)) advances.left;
-    exact = on_ok result (λ less none. let before = was in let is = left-same new.hand advances.no_compact in
+    exact = on_ok result (λ less none. let before = was in let is = left-same new.under_way advances.no_compact in
         omega (arith, less, before, is)) advances.left;
-    place = λ busy. advances.place (still-busy new.hand advances.no_compact busy);
+    place = λ busy. advances.place (still-busy new.under_way advances.no_compact busy);
     task = advances.task;
-    moved = on_ok result (λ goes_on idle. goes_on idle ∙ ap (place_then old.place) (sym hand_is)) advances.moved;
+    moved = on_ok result (λ goes_on idle. goes_on idle ∙ ap (place_then old.place) (sym under_way_is)) advances.moved;
     at_fault = advances.at_fault;
-    lent = λ others lent. lent-none new.hand advances.no_compact others;
-    made = λ before after made. made-none new.hand advances.no_compact records before after;
+    lent = λ others lent. lent-none new.under_way advances.no_compact others;
+    made = λ before after made. made-none new.under_way advances.no_compact records before after;
     any_moment = λ honest before after holding. advances.any_moment honest before after holding.holds;
     next = on_ok result (λ comes honest before after holding. comes honest before after holding.holds) advances.next;
   }
@@ -247,15 +247,15 @@ module _ {D : Type 0} (disk_of : D → disk.Disk) (device later : D) (place : Pl
         exact = λ none. absurd none;
         place = λ busy. refl;
         task = λ busy. refl;
-        moved = λ idle. absurd (let not : Compact (record work { stage = stage }) ≡ Empty = idle in cc);
+        moved = λ idle. absurd (let not : Compact (record work { stage = stage }) ≡ Nothing = idle in cc);
         at_fault = tt;
         lent = λ others lent. lent;
         made = λ before after made. made;
         any_moment = λ honest before after holding.
-            anew-leaves (disk_of device) place (Compact work) work records before after refl holding area area_is
+            compaction-leaves (disk_of device) place (Compact work) work records before after refl holding area area_is
             (disk_of later) call.work.works (under_way honest);
         next = λ honest before after holding.
-            anew-next (disk_of device) place (Compact work) work records before after refl holding area area_is
+            compaction-next (disk_of device) place (Compact work) work records before after refl holding area area_is
             (disk_of later) next (comes honest) stage is room;
       };
       under_way = way;
@@ -265,7 +265,7 @@ module _ {D : Type 0} (disk_of : D → disk.Disk) (device later : D) (place : Pl
     -- the records are there
     pub compact-ends : next ≡ None
         → AdvancesCompact disk_of (journal_of device place (Compact work) false) records went
-        (journal_of later (new_place (other_area place.area) work) Empty false)
+        (journal_of later (new_place (other_area place.area) work) Nothing false)
     compact-ends is = record {
       advances = record {
         names = tt;
@@ -284,11 +284,11 @@ module _ {D : Type 0} (disk_of : D → disk.Disk) (device later : D) (place : Pl
         lent = λ others lent. tt;
         made = λ before after made. tt;
         any_moment = λ honest before after holding.
-            anew-leaves (disk_of device) place (Compact work) work records before after refl holding area area_is
+            compaction-leaves (disk_of device) place (Compact work) work records before after refl holding area area_is
             (disk_of later) call.work.works (under_way honest);
         next = λ honest before after holding.
-            subst (λ (a : ℕ). IsHolding (disk_of later) (new_place a work) Empty after after) area_is
-            (anew-done (disk_of device) place (Compact work) work records before after refl holding area area_is
+            subst (λ (a : ℕ). IsHolding (disk_of later) (new_place a work) Nothing after after) area_is
+            (compaction-done (disk_of device) place (Compact work) work records before after refl holding area area_is
             (disk_of later) next (comes honest) is);
       };
       under_way = way;
@@ -299,7 +299,7 @@ module _ {D : Type 0} (disk_of : D → disk.Disk) (device later : D) (place : Pl
   pub compact-stops : (fault : DeviceFault)
       → disk.IsDeviceCall (disk_of device) (disk_of later) (faulty {Stage = CompactStage} fault)
       → AdvancesCompact disk_of (journal_of device place (Compact work) false) records broke
-      (journal_of later place Empty true)
+      (journal_of later place Nothing true)
   compact-stops fault call = record {
     advances = record {
       names = refl;
@@ -318,7 +318,7 @@ module _ {D : Type 0} (disk_of : D → disk.Disk) (device later : D) (place : Pl
       lent = λ others lent. tt;
       made = λ before after made. tt;
       any_moment = λ honest before after holding.
-          anew-leaves (disk_of device) place (Compact work) work records before after refl holding area area_is
+          compaction-leaves (disk_of device) place (Compact work) work records before after refl holding area area_is
           (disk_of later) call.work.works (under_way honest);
       next = tt;
     };

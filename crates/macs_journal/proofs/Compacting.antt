@@ -1,4 +1,4 @@
--- A journal that starts over: what it is where that was not begun, and what its device calls come to.
+-- A compaction of a journal: what it is where that was not begun, and what its device calls come to.
 use Rattle.std.proofs.Common.{◌≡◌, ◌≤◌, ◌⊎◌, ◌↔◌, ◌+◌, ◌∙◌, ℕ, true, false, inl, inr, sym, ap, refl, subst, arith, List}
 use Rattle.std.proofs.Common.{length, Result, Ok, Err, IsErrOf}
 use Rattle.macs_disk.specs.Disk.{now}
@@ -13,7 +13,7 @@ use Rattle.macs_journal.specs.Compacting.{Compacts, FindsUntil, HasOpenGates, Is
 use Rattle.macs_journal.specs.Compacting.{last_generation, next_head, with_nothing}
 use Rattle.macs_journal.specs.Found.{Content, HasJournal}
 use Rattle.macs_journal.specs.Stages.{AreGatesClosed, AtStage, IsRewritten, IsUnderWay, compact_left}
-use Rattle.macs_journal.specs.Stepping.{AtNextCall, IsCompactHand, IsSameTask, IsTaskInHand, Renews, Starts, calls_of}
+use Rattle.macs_journal.specs.Stepping.{AtNextCall, IsCompactionUnderWay, IsSameTask, IsTaskUnderWay, Compaction, Starts, calls_of}
 use Rattle.macs_journal.specs.Stepping.{place_then}
 use Rattle.macs_journal.specs.Value.{AreLent, HoldsContent, IsHolding, IsIdle, JournalValue, disk_in, generation}
 use Rattle.macs_journal.specs.Value.{is_stopped, left_of}
@@ -23,8 +23,8 @@ use Rattle.macs_journal.specs.declared.compact_stage.CompactStage.TheVariants.{R
 use Rattle.macs_journal.specs.declared.compact_stage.CompactStage.TheVariants.{Body, BodiesSync, HeadGate, HeadSync}
 use Rattle.macs_journal.specs.declared.fault.JournalFault.{JournalFault}
 use Rattle.macs_journal.specs.declared.fault.JournalFault.TheVariants.{Disk, GenerationsSpent, Stopped}
-use Rattle.macs_journal.specs.declared.hand.Hand.{Hand}
-use Rattle.macs_journal.specs.declared.hand.Hand.TheVariants.{Append, Compact, Empty}
+use Rattle.macs_journal.specs.declared.under_way.UnderWay.{UnderWay}
+use Rattle.macs_journal.specs.declared.under_way.UnderWay.TheVariants.{Append, Compact, Nothing}
 use Rattle.macs_journal.specs.declared.place.Place.{Place}
 use Rattle.macs_journal.proofs.GateCalls.{none-closed}
 use Rattle.macs_journal.proofs.Holding.{idle-ready, kept-image}
@@ -38,7 +38,7 @@ module _ {D : Type 0} (disk_of : D → disk.Disk) (j : JournalValue D) (before :
     (holds : HoldsContent disk_of j before) where
   still : Leaves (disk_in disk_of j) (disk_in disk_of j) (λ image. HasJournal image before)
   still = Leaves-start (disk_in disk_of j) (λ image. HasJournal image before)
-      (kept-image (disk_in disk_of j) j.place j.hand before holds)
+      (kept-image (disk_in disk_of j) j.place j.under_way before holds)
 
   still-until : (limit : ℕ) → FindsUntil (disk_in disk_of j) (disk_in disk_of j) limit before
   still-until limit k from until lt image left = still.each image (k, from, until, left)
@@ -56,7 +56,7 @@ done = Ok tt
 
 -- it was refused before the first call
 module _ {D : Type 0} (disk_of : D → disk.Disk) (j : JournalValue D) (records : List Record) (fault : JournalFault)
-    (starts : Starts disk_of j (Renews records) (refused fault) j) where
+    (starts : Starts disk_of j (Compaction records) (refused fault) j) where
   no-device-fault : ¬ IsErrOf (refused fault) Disk
   no-device-fault is = elim starts.names [
     | inl stopped ↦ cc
@@ -100,17 +100,17 @@ module _ {D : Type 0} (disk_of : D → disk.Disk) (j : JournalValue D) (records 
 
 pub unbegun-compacts : {D : Type 0} (disk_of : D → disk.Disk) (old new : JournalValue D) (records : List Record)
     (fault : JournalFault)
-    → Starts disk_of old (Renews records) (refused fault) new → Compacts disk_of old records (refused fault) new
+    → Starts disk_of old (Compaction records) (refused fault) new → Compacts disk_of old records (refused fault) new
 unbegun-compacts disk_of old new records fault starts =
     subst (λ (j : JournalValue _). Compacts disk_of old records (refused fault) j) (sym starts.same)
     (still-compacts disk_of old records fault
-    (subst (λ (j : JournalValue _). Starts disk_of old (Renews records) (refused fault) j) starts.same starts))
+    (subst (λ (j : JournalValue _). Starts disk_of old (Compaction records) (refused fault) j) starts.same starts))
 
 -- ---- it was begun
 
 module _ {D : Type 0} (disk_of : D → disk.Disk) (old mid : JournalValue D) (records : List Record) (idle : IsIdle old)
     (few : length records ≤ slots)
-    (starts : Starts disk_of old (Renews records) done mid) where
+    (starts : Starts disk_of old (Compaction records) done mid) where
   ran : is_stopped old ≡ false
   ran = by_stopped (is_stopped old) refl where
     by_stopped : (stopped : _) → is_stopped old ≡ stopped → is_stopped old ≡ false
@@ -122,13 +122,13 @@ module _ {D : Type 0} (disk_of : D → disk.Disk) (old mid : JournalValue D) (re
   as-before = λ i. record {
     disk = starts.device i;
     place = starts.place i;
-    hand = sym idle i;
+    under_way = sym idle i;
     stopped = (starts.running ∙ sym ran) i;
   }
 
   -- what is under way is to be done from where it is
-  task-there : (hand : Hand) → IsTaskInHand old (Renews records) hand → IsTaskInHand mid (Renews records) hand
-  task-there Empty task = absurd task
+  task-there : (under_way : UnderWay) → IsTaskUnderWay old (Compaction records) under_way → IsTaskUnderWay mid (Compaction records) under_way
+  task-there Nothing task = absurd task
   task-there (Append work) task = absurd task
   task-there (Compact work) task = ap (λ (p : Place). next_head p.head (length records)) starts.place ∙ task
 
@@ -141,7 +141,7 @@ module _ {D : Type 0} (disk_of : D → disk.Disk) (old mid : JournalValue D) (re
     running = starts.running;
     more = more;
     few = few;
-    hand = task-there mid.hand starts.hand;
+    under_way = task-there mid.under_way starts.under_way;
     left = starts.left;
   }
 
@@ -153,44 +153,44 @@ module _ {D : Type 0} (disk_of : D → disk.Disk) (old mid : JournalValue D) (re
 
 -- ---- the work under way
 
--- nothing is under way, or the journal starts over under this head
-abbrev pub IsCompactOf : Head → Hand → Type 0
-IsCompactOf head Empty = Unit {0}
+-- nothing is under way, or a compaction with this head
+abbrev pub IsCompactOf : Head → UnderWay → Type 0
+IsCompactOf head Nothing = Unit {0}
 IsCompactOf head (Append work) = ⊥
 IsCompactOf head (Compact work) = work.head ≡ head
 
-pub head-begun : {D : Type 0} (j : JournalValue D) (records : List Record) (hand : Hand)
-    → IsTaskInHand j (Renews records) hand
-    → IsCompactOf (next_head j.place.head (length records)) hand
-head-begun j records Empty task = absurd task
+pub head-begun : {D : Type 0} (j : JournalValue D) (records : List Record) (under_way : UnderWay)
+    → IsTaskUnderWay j (Compaction records) under_way
+    → IsCompactOf (next_head j.place.head (length records)) under_way
+head-begun j records Nothing task = absurd task
 head-begun j records (Append work) task = absurd task
 head-begun j records (Compact work) task = sym task
 
-pub lent-begun : {D : Type 0} (j : JournalValue D) (records : List Record) (hand : Hand)
-    → IsTaskInHand j (Renews records) hand → AreLent hand records
-lent-begun j records Empty task = absurd task
+pub lent-begun : {D : Type 0} (j : JournalValue D) (records : List Record) (under_way : UnderWay)
+    → IsTaskUnderWay j (Compaction records) under_way → AreLent under_way records
+lent-begun j records Nothing task = absurd task
 lent-begun j records (Append work) task = absurd task
 lent-begun j records (Compact work) task = ap (λ (h : Head). h.count) task
 
-pub not-idle : (hand : Hand) → IsCompactHand hand → ¬ (hand ≡ Empty)
-not-idle Empty busy is = busy
+pub not-idle : (under_way : UnderWay) → IsCompactionUnderWay under_way → ¬ (under_way ≡ Nothing)
+not-idle Nothing busy is = busy
 not-idle (Append work) busy is = busy
 not-idle (Compact work) busy is = cc
 
-pub idle-then : (head : Head) (hand : Hand) → IsCompactOf head hand → ¬ IsCompactHand hand → hand ≡ Empty
-idle-then head Empty of busy = refl
+pub idle-then : (head : Head) (under_way : UnderWay) → IsCompactOf head under_way → ¬ IsCompactionUnderWay under_way → under_way ≡ Nothing
+idle-then head Nothing of busy = refl
 idle-then head (Append work) of busy = absurd of
 idle-then head (Compact work) of busy = absurd (busy tt)
 
-pub not-begun : {D : Type 0} (j : JournalValue D) (records : List Record) (hand : Hand)
-    → IsTaskInHand j (Renews records) hand → ¬ (hand ≡ Empty)
-not-begun j records Empty task is = task
+pub not-begun : {D : Type 0} (j : JournalValue D) (records : List Record) (under_way : UnderWay)
+    → IsTaskUnderWay j (Compaction records) under_way → ¬ (under_way ≡ Nothing)
+not-begun j records Nothing task is = task
 not-begun j records (Append work) task is = task
 not-begun j records (Compact work) task is = cc
 
 -- a call is left
-pub some-left-compact : (hand : Hand) → IsCompactHand hand → 1 ≤ left_of hand
-some-left-compact Empty busy = absurd busy
+pub some-left-compact : (under_way : UnderWay) → IsCompactionUnderWay under_way → 1 ≤ left_of under_way
+some-left-compact Nothing busy = absurd busy
 some-left-compact (Append work) busy = absurd busy
 some-left-compact (Compact work) busy = some-left work.head.count work.stage
 
@@ -203,13 +203,13 @@ fails-later old mid new result is steady fails =
     (FailsOnce-before old mid new steady (subst (λ (r : Result (Unit {0}) JournalFault). FailsAs mid new r) is fails))
 
 -- one call more
-pub head-next : (head : Head) (old new : Hand) → IsCompactHand old → IsCompactOf head old
-    → ((¬ (new ≡ Empty)) → IsSameTask old new) → IsCompactOf head new
-head-next head old Empty busy of same = tt
-head-next head Empty (Append later) busy of same = absurd busy
+pub head-next : (head : Head) (old new : UnderWay) → IsCompactionUnderWay old → IsCompactOf head old
+    → ((¬ (new ≡ Nothing)) → IsSameTask old new) → IsCompactOf head new
+head-next head old Nothing busy of same = tt
+head-next head Nothing (Append later) busy of same = absurd busy
 head-next head (Append work) (Append later) busy of same = absurd busy
 head-next head (Compact work) (Append later) busy of same = same (λ is. cc)
-head-next head Empty (Compact later) busy of same = absurd busy
+head-next head Nothing (Compact later) busy of same = absurd busy
 head-next head (Append work) (Compact later) busy of same = absurd busy
 head-next head (Compact work) (Compact later) busy of same = same (λ is. cc) ∙ of
 
@@ -217,25 +217,25 @@ head-next head (Compact work) (Compact later) busy of same = same (λ is. cc) �
 abbrev place-under : Head → Place → Place
 place-under head place = record { area = other_area place.area; head = head; free = head.count }
 
-place-then : (place : Place) (head : Head) (hand : Hand) → IsCompactHand hand → IsCompactOf head hand
-    → place_then place hand ≡ place-under head place
-place-then place head Empty busy of = absurd busy
+place-then : (place : Place) (head : Head) (under_way : UnderWay) → IsCompactionUnderWay under_way → IsCompactOf head under_way
+    → place_then place under_way ≡ place-under head place
+place-then place head Nothing busy of = absurd busy
 place-then place head (Append work) busy of = absurd busy
 place-then place head (Compact work) busy of = ap (λ (h : Head). place-under h place) of
 
-pub place-moved : (start mid : Place) (records : List Record) (hand : Hand) → IsCompactHand hand
-    → IsCompactOf (next_head start.head (length records)) hand
-    → mid ≡ start → place_then mid hand ≡ compacted_place start (length records)
-place-moved start mid records hand busy of same =
-    place-then mid (next_head start.head (length records)) hand busy of
+pub place-moved : (start mid : Place) (records : List Record) (under_way : UnderWay) → IsCompactionUnderWay under_way
+    → IsCompactOf (next_head start.head (length records)) under_way
+    → mid ≡ start → place_then mid under_way ≡ compacted_place start (length records)
+place-moved start mid records under_way busy of same =
+    place-then mid (next_head start.head (length records)) under_way busy of
     ∙ ap (place-under (next_head start.head (length records))) same
 
 -- before its first call
-pub at-begun : {D : Type 0} (j : JournalValue D) (d : disk.Disk) (records : List Record) (hand : Hand)
-    → IsTaskInHand j (Renews records) hand
-    → left_of hand ≡ calls_of (Renews records)
-    → AtNextCall d d (other_area j.place.area) (next_head j.place.head (length records)) records hand
-at-begun j d records Empty task left = absurd task
+pub at-begun : {D : Type 0} (j : JournalValue D) (d : disk.Disk) (records : List Record) (under_way : UnderWay)
+    → IsTaskUnderWay j (Compaction records) under_way
+    → left_of under_way ≡ calls_of (Compaction records)
+    → AtNextCall d d (other_area j.place.area) (next_head j.place.head (length records)) records under_way
+at-begun j d records Nothing task left = absurd task
 at-begun j d records (Append work) task left = absurd task
 at-begun j d records (Compact work) task left = (
   sym task,
@@ -275,7 +275,7 @@ module _ {D : Type 0} (disk_of : D → disk.Disk) (old new : JournalValue D) (re
         ((disk_in disk_of old).clock + (261 + opened + length records)) before
     finds-until honest before holds =
         way-until (disk_in disk_of old) (disk_in disk_of new) area head records begun.few before
-        (idle-ready (disk_in disk_of old) old.place Empty before holds)
+        (idle-ready (disk_in disk_of old) old.place Nothing before holds)
         (ap other_area holds.at.area) (under_way honest)
 
     leaves-either : disk.IsHonest (disk_in disk_of new) → (before : Content)
@@ -283,7 +283,7 @@ module _ {D : Type 0} (disk_of : D → disk.Disk) (old new : JournalValue D) (re
         → Leaves (disk_in disk_of old) (disk_in disk_of new) (HasEitherJournal before (compacted before records))
     leaves-either honest before holds =
         way-leaves (disk_in disk_of old) (disk_in disk_of new) area head records begun.few before
-        (idle-ready (disk_in disk_of old) old.place Empty before holds)
+        (idle-ready (disk_in disk_of old) old.place Nothing before holds)
         (ap other_area holds.at.area) (ap (λ (h : Head). next_head h (length records)) holds.at.head) (under_way honest)
 
   -- one of them failed
@@ -326,7 +326,7 @@ module _ {D : Type 0} (disk_of : D → disk.Disk) (old new : JournalValue D) (re
 
     holds-new : disk.IsHonest (disk_in disk_of new) → (before : Content)
         → HoldsContent disk_of (with_nothing old) before
-        → IsHolding (disk_in disk_of new) (compacted_place old.place (length records)) Empty
+        → IsHolding (disk_in disk_of new) (compacted_place old.place (length records)) Nothing
         (compacted before records) (compacted before records)
     holds-new honest before holds = record {
       at = record {
@@ -337,7 +337,7 @@ module _ {D : Type 0} (disk_of : D → disk.Disk) (old new : JournalValue D) (re
       };
       holds = (
         way-ready (disk_in disk_of old) (disk_in disk_of new) area head records begun.few before
-            (idle-ready (disk_in disk_of old) old.place Empty before holds) (ap other_area holds.at.area)
+            (idle-ready (disk_in disk_of old) old.place Nothing before holds) (ap other_area holds.at.area)
             (ap (λ (h : Head). next_head h (length records)) holds.at.head) (rewritten honest),
         refl,
       );
@@ -360,11 +360,11 @@ module _ {D : Type 0} (disk_of : D → disk.Disk) (old new : JournalValue D) (re
       until = finds-until under_way-to-end;
       any_moment = leaves-either under_way-to-end;
       done = λ honest before holds.
-          subst (λ (h : Hand). IsHolding (disk_in disk_of new) new.place h (compacted before records)
+          subst (λ (h : UnderWay). IsHolding (disk_in disk_of new) new.place h (compacted before records)
           (compacted before records)) (sym idle)
-          (subst (λ (p : Place). IsHolding (disk_in disk_of new) p Empty (compacted before records)
+          (subst (λ (p : Place). IsHolding (disk_in disk_of new) p Nothing (compacted before records)
           (compacted before records)) (sym place) (holds-new honest before holds));
-      kept = λ honest before holds. kept-image (disk_in disk_of new) (compacted_place old.place (length records)) Empty
+      kept = λ honest before holds. kept-image (disk_in disk_of new) (compacted_place old.place (length records)) Nothing
           (compacted before records) (holds-new honest before holds);
       gates = λ honest.
           way-gates (disk_in disk_of old) (disk_in disk_of new) area head records begun.few (rewritten honest);

@@ -20,7 +20,7 @@ pub mod GateCalls
 pub mod BodyCalls
 pub mod HeadCalls
 pub mod UnderWay
-pub mod Anew
+pub mod CompactionCalls
 pub mod Tasks
 pub mod Steps
 pub mod Advancing

@@ -15,7 +15,7 @@ use Rattle.macs_journal.specs.Recovery.{IsBehind, IsByContent, IsLeftBy, IsNamed
 use Rattle.macs_journal.specs.Work.{FailsWith}
 use Rattle.macs_journal.specs.declared.fault.JournalFault.{JournalFault}
 use Rattle.macs_journal.specs.declared.fault.JournalFault.TheVariants.{BadJournal, Disk, NotFormatted, TooSmall}
-use Rattle.macs_journal.specs.declared.hand.Hand.TheVariants.{Empty}
+use Rattle.macs_journal.specs.declared.under_way.UnderWay.TheVariants.{Nothing}
 use Rattle.macs_journal.specs.declared.place.Place.{Place}
 use Rattle.macs_journal.specs.declared.recovery.Meaning.{Meaning}
 use Rattle.macs_journal.specs.declared.recovery.Meaning.TheVariants.{Journal, Refused}
@@ -110,7 +110,7 @@ module _ {D : Type 0} (disk_of : D → disk.Disk) (old new : D) (large : least_s
         → meaning ≡ Journal place
         → IsBehind meaning (read_in meaning room)
         → (disk.IsHonest (disk_of new) → MeaningIs (disk.now (disk_of old)).seen meaning (read_in meaning room))
-        → Recovers disk_of old (record { disk = new; place = place; hand = Empty; stopped = false }) format identity
+        → Recovers disk_of old (record { disk = new; place = place; under_way = Nothing; stopped = false }) format identity
         count (take place.free room)
     recovers-found meaning place room format identity count form whose counted is behind found =
         let stands : IsBehind (Journal place) (take place.free room) =

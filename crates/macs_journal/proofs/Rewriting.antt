@@ -1,4 +1,4 @@
--- What a power loss leaves while a journal starts over, by the sectors that are left alone.
+-- What a power loss leaves during a compaction, by the sectors that are left alone.
 use Rattle.std.proofs.Common.{◌≡◌, ◌≢◌, ◌<◌, ◌≤◌, ◌+◌, inl, inr, ⊎_elim, ℕ, refl, sym, ◌∙◌, ap, subst, arith, List}
 use Rattle.std.proofs.Common.{length}
 use Rattle.macs_disk.specs.States.{DiskState, Image}

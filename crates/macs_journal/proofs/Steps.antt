@@ -9,8 +9,8 @@ use Rattle.macs_journal.specs.Stepping.{Advances, Steps, step_of}
 use Rattle.macs_journal.specs.Value.{ComesTo, HoldsWith, IsHolding, IsIdle, JournalValue, disk_in, is_stopped}
 use Rattle.macs_journal.specs.declared.fault.JournalFault.{JournalFault}
 use Rattle.macs_journal.specs.declared.fault.JournalFault.TheVariants.{Stopped}
-use Rattle.macs_journal.specs.declared.hand.Hand.{Hand}
-use Rattle.macs_journal.specs.declared.hand.Hand.TheVariants.{Append, Compact, Empty}
+use Rattle.macs_journal.specs.declared.under_way.UnderWay.{UnderWay}
+use Rattle.macs_journal.specs.declared.under_way.UnderWay.TheVariants.{Append, Compact, Nothing}
 use Rattle.macs_journal.specs.declared.work.JournalStep.{JournalStep}
 use Rattle.macs_journal.specs.declared.work.JournalStep.TheVariants.{Finished, Going, Idle}
 use Rattle.macs_journal.proofs.Holding.{holding-image, kept-image}
@@ -45,7 +45,7 @@ module _ {D : Type 0} (disk_of : D → disk.Disk) (j : JournalValue D) (snapshot
     exact = tt;
     any_moment = λ honest before after holding.
         Leaves-start (disk_in disk_of j) (HasEitherJournal before after)
-        (holding-image (disk_in disk_of j) j.place j.hand before after holding.holds);
+        (holding-image (disk_in disk_of j) j.place j.under_way before after holding.holds);
     goes_on = search rules;
     done = search rules;
     kept = search rules;
@@ -73,7 +73,7 @@ module _ {D : Type 0} (disk_of : D → disk.Disk) (j : JournalValue D) (snapshot
     exact = λ busy. absurd (busy idle);
     any_moment = λ honest before after holding.
         Leaves-start (disk_in disk_of j) (HasEitherJournal before after)
-        (holding-image (disk_in disk_of j) j.place j.hand before after holding.holds);
+        (holding-image (disk_in disk_of j) j.place j.under_way before after holding.holds);
     goes_on = search rules;
     done = search rules;
     kept = search rules;
@@ -85,8 +85,8 @@ done = Ok tt
 
 module _ {D : Type 0} (disk_of : D → disk.Disk) (old new : JournalValue D) (snapshot : List Record)
     (runs : is_stopped old ≡ false) (busy : ¬ IsIdle old) (advances : Advances disk_of old snapshot done new) where
-  went-on : (¬ IsIdle new) → ((d : disk.Disk) → (before after : Content) → ComesTo d new.place new.hand before after
-      → IsHolding d new.place new.hand before after)
+  went-on : (¬ IsIdle new) → ((d : disk.Disk) → (before after : Content) → ComesTo d new.place new.under_way before after
+      → IsHolding d new.place new.under_way before after)
       → Steps disk_of old snapshot (answers Going) new
   went-on still holds = record {
     stopped = search (rules, runs);
@@ -119,11 +119,11 @@ module _ {D : Type 0} (disk_of : D → disk.Disk) (old new : JournalValue D) (sn
   was-last : IsIdle new → Steps disk_of old snapshot (answers Finished) new
   was-last idle =
       let comes : (honest : disk.IsHonest (disk_in disk_of new)) → (before after : Content)
-      → HoldsWith (disk_in disk_of old) old.place old.hand snapshot before after
-      → IsHolding (disk_in disk_of new) new.place new.hand after after =
+      → HoldsWith (disk_in disk_of old) old.place old.under_way snapshot before after
+      → IsHolding (disk_in disk_of new) new.place new.under_way after after =
       λ honest before after holding.
-      subst (λ (h : Hand). IsHolding (disk_in disk_of new) new.place h after after) (sym idle)
-      (subst (λ (h : Hand). ComesTo (disk_in disk_of new) new.place h before after) idle
+      subst (λ (h : UnderWay). IsHolding (disk_in disk_of new) new.place h after after) (sym idle)
+      (subst (λ (h : UnderWay). ComesTo (disk_in disk_of new) new.place h before after) idle
       (advances.next honest before after holding)) in
       record {
         stopped = search (rules, runs);
@@ -149,18 +149,18 @@ module _ {D : Type 0} (disk_of : D → disk.Disk) (old new : JournalValue D) (sn
         goes_on = search rules;
         done = λ is honest before after holding. comes honest before after holding;
         kept = λ is honest before after holding image left.
-            kept-image (disk_in disk_of new) new.place new.hand after (comes honest before after holding) image left;
+            kept-image (disk_in disk_of new) new.place new.under_way after (comes honest before after holding) image left;
       }
 
-  pub steps-done : Steps disk_of old snapshot (answers (step_of new.hand)) new
-  steps-done = by_hand new.hand refl where
-    by_hand : (h : Hand) → new.hand ≡ h → Steps disk_of old snapshot (answers (step_of h)) new
-    by_hand Empty is = was-last is
-    by_hand (Append work) is =
+  pub steps-done : Steps disk_of old snapshot (answers (step_of new.under_way)) new
+  steps-done = by_under_way new.under_way refl where
+    by_under_way : (h : UnderWay) → new.under_way ≡ h → Steps disk_of old snapshot (answers (step_of h)) new
+    by_under_way Nothing is = was-last is
+    by_under_way (Append work) is =
         went-on (λ idle. absurd (let same = sym is ∙ idle in cc))
-        (λ d before after comes. subst (λ (h : Hand). IsHolding d new.place h before after) (sym is)
-        (subst (λ (h : Hand). ComesTo d new.place h before after) is comes))
-    by_hand (Compact work) is =
+        (λ d before after comes. subst (λ (h : UnderWay). IsHolding d new.place h before after) (sym is)
+        (subst (λ (h : UnderWay). ComesTo d new.place h before after) is comes))
+    by_under_way (Compact work) is =
         went-on (λ idle. absurd (let same = sym is ∙ idle in cc))
-        (λ d before after comes. subst (λ (h : Hand). IsHolding d new.place h before after) (sym is)
-        (subst (λ (h : Hand). ComesTo d new.place h before after) is comes))
+        (λ d before after comes. subst (λ (h : UnderWay). IsHolding d new.place h before after) (sym is)
+        (subst (λ (h : UnderWay). ComesTo d new.place h before after) is comes))

@@ -13,7 +13,7 @@ use Rattle.macs_record.specs.declared.record.Record.{Record}
 use Rattle.macs_journal.specs.Appending.{HasEitherJournal, IsReady}
 use Rattle.macs_journal.specs.Areas.{gate, gates, head_body, other_area, slot_body, slots}
 use Rattle.macs_journal.specs.Found.{Content, HasJournal}
-use Rattle.macs_journal.specs.Renewal.{CompactWrites, FindsUntil, HasOpenGates, compacted, next_head}
+use Rattle.macs_journal.specs.Compacted.{CompactWrites, FindsUntil, HasOpenGates, compacted, next_head}
 use Rattle.macs_journal.specs.Rewriting.{AreBodies, HasNewGates}
 use Rattle.macs_journal.specs.Stages.{AreBodiesWritten, AreGatesClosed, AtNextStage, AtStage, Does, IsCompactStage}
 use Rattle.macs_journal.specs.Stages.{IsRewritten, IsUnderWay, body_from, gate_from, next_stage}

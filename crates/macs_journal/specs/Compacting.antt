@@ -9,15 +9,15 @@ use Rattle.macs_journal.specs.Appending.{HasEitherJournal}
 use Rattle.macs_journal.specs.Areas.{gates, other_area, slots}
 use Rattle.macs_journal.specs.Found.{Content, HasJournal}
 use Rattle.macs_journal.specs.Rewriting.{HasNewGates}
-use Rattle.macs_journal.specs.Stepping.{IsTaskInHand, Renews, calls_of}
+use Rattle.macs_journal.specs.Stepping.{IsTaskUnderWay, Compaction, calls_of}
 use Rattle.macs_journal.specs.Value.{HoldsContent, IsIdle, JournalValue, disk_in, generation, is_stopped, left_of}
 use Rattle.macs_journal.specs.Work.{IsSpared, IsWorkOf}
 use Rattle.macs_journal.specs.declared.fault.JournalFault.{JournalFault}
 use Rattle.macs_journal.specs.declared.fault.JournalFault.TheVariants.{Disk, GenerationsSpent, Stopped}
-use Rattle.macs_journal.specs.declared.hand.Hand.TheVariants.{Empty}
+use Rattle.macs_journal.specs.declared.under_way.UnderWay.TheVariants.{Nothing}
 use Rattle.macs_journal.specs.declared.place.Place.{Place}
-pub use Rattle.macs_journal.specs.Renewal.{CompactWrites, FindsUntil, compacted, last_generation, next_head}
-unfoldable pub use Rattle.macs_journal.specs.Renewal.{HasOpenGates}
+pub use Rattle.macs_journal.specs.Compacted.{CompactWrites, FindsUntil, compacted, last_generation, next_head}
+unfoldable pub use Rattle.macs_journal.specs.Compacted.{HasOpenGates}
 
 -- where the journal continues, after this many records
 abbrev pub compacted_place : Place → ℕ → Place
@@ -28,12 +28,12 @@ pub record IsBegun {D : Type 0} (j : JournalValue D) (records : List Record) : T
   pub running : is_stopped j ≡ false
   pub more : ¬ (generation j ≡ last_generation)
   pub few : length records ≤ slots
-  pub hand : IsTaskInHand j (Renews records) j.hand
-  pub left : left_of j.hand ≡ calls_of (Renews records)
+  pub under_way : IsTaskUnderWay j (Compaction records) j.under_way
+  pub left : left_of j.under_way ≡ calls_of (Compaction records)
 
 -- the journal with nothing under way
 abbrev pub with_nothing : {D : Type 0} → JournalValue D → JournalValue D
-with_nothing j = record j { hand = Empty }
+with_nothing j = record j { under_way = Nothing }
 
 -- A journal is rewritten with these records in its other area. Fails with Stopped if a device call failed before, then
 -- with GenerationsSpent if its generation is the last one, and changes nothing then; with Disk if a device call failed,

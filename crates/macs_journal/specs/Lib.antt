@@ -4,7 +4,7 @@ pub mod Appending
 pub mod Value
 pub mod Work
 pub mod Rewriting
-pub mod Renewal
+pub mod Compacted
 pub mod Stages
 pub mod Formatting
 pub mod Recovery

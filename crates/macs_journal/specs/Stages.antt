@@ -10,7 +10,7 @@ use Rattle.macs_record.specs.Heads.{Head, IsHeadOf}
 use Rattle.macs_record.specs.declared.record.Record.{Record}
 use Rattle.macs_journal.specs.Areas.{gate, gates, head_body, slot_body}
 use Rattle.macs_journal.specs.Found.{IsGateOpen}
-use Rattle.macs_journal.specs.Renewal.{HasOpenGates}
+use Rattle.macs_journal.specs.Compacted.{HasOpenGates}
 use Rattle.macs_journal.specs.Rewriting.{AreClosed, IsNoBody, IsNoOpenGate, IsOldOrOpening, IsSettled, IsShut}
 use Rattle.macs_journal.specs.Work.{IsSpared}
 use Rattle.macs_journal.specs.declared.compact_stage.CompactStage.{CompactStage}

@@ -6,18 +6,18 @@ use Rattle.macs_record.specs.declared.record.Record.{Record}
 use Rattle.macs_journal.specs.Areas.{other_area, slots}
 use Rattle.macs_journal.specs.Found.{Content, content_with_record}
 use Rattle.macs_journal.specs.Appending.{AtAppend, IsReady, calls_left}
-use Rattle.macs_journal.specs.Renewal.{compacted, next_head}
+use Rattle.macs_journal.specs.Compacted.{compacted, next_head}
 use Rattle.macs_journal.specs.Stages.{AtStage, IsCompactStage, compact_left}
-use Rattle.macs_journal.specs.declared.hand.Compacting.{Compacting}
-use Rattle.macs_journal.specs.declared.hand.Hand.{Hand}
-use Rattle.macs_journal.specs.declared.hand.Hand.TheVariants.{Append, Compact, Empty}
+use Rattle.macs_journal.specs.declared.under_way.Compacting.{Compacting}
+use Rattle.macs_journal.specs.declared.under_way.UnderWay.{UnderWay}
+use Rattle.macs_journal.specs.declared.under_way.UnderWay.TheVariants.{Append, Compact, Nothing}
 use Rattle.macs_journal.specs.declared.place.Place.{Place}
 
 -- what a journal keeps: its disk, where the next record goes, the work under way, and whether a device call failed
 pub record JournalValue (D : Type 0) : Type 0 where
   pub disk : D
   pub place : Place
-  pub hand : Hand
+  pub under_way : UnderWay
   pub stopped : Bool
 
 -- its device
@@ -46,7 +46,7 @@ generation j = j.place.head.generation
 
 -- no work is under way
 abbrev pub IsIdle : {D : Type 0} → JournalValue D → Type 0
-IsIdle j = j.hand ≡ Empty
+IsIdle j = j.under_way ≡ Nothing
 
 -- these records, in its current area with its head
 abbrev pub content_of : {D : Type 0} → JournalValue D → List Record → Content
@@ -72,67 +72,67 @@ pub record IsCompacting (d : Disk) (work : Compacting) (before after : Content) 
 
 -- nothing is under way, or a record that is being appended to a free slot, or records with which the journal is being
 -- rewritten
-abbrev pub HoldsHand : Disk → Hand → Content → Content → Type 0
-HoldsHand d Empty before after = IsReady (now d) before × (after ≡ before)
-HoldsHand d (Append work) before after =
+abbrev pub HoldsUnderWay : Disk → UnderWay → Content → Content → Type 0
+HoldsUnderWay d Nothing before after = IsReady (now d) before × (after ≡ before)
+HoldsUnderWay d (Append work) before after =
     (r : Record) × IsSectorOf r work.sector × (after ≡ content_with_record before r)
     × AtAppend (now d) before work.sector work.stage × (length before.records < slots)
-HoldsHand d (Compact work) before after = IsCompacting d work before after
+HoldsUnderWay d (Compact work) before after = IsCompacting d work before after
 
 -- The disk has the content `before`, and `after` once the work under way is done.
-pub record IsHolding (d : Disk) (place : Place) (hand : Hand) (before after : Content) : Type 0 where
+pub record IsHolding (d : Disk) (place : Place) (under_way : UnderWay) (before after : Content) : Type 0 where
   pub at : IsAt place before
-  pub holds : HoldsHand d hand before after
+  pub holds : HoldsUnderWay d under_way before after
 
 -- if the journal is being rewritten: there are as many records as its new head counts
-abbrev pub AreLent : Hand → List Record → Type 0
-AreLent Empty snapshot = Unit {0}
+abbrev pub AreLent : UnderWay → List Record → Type 0
+AreLent Nothing snapshot = Unit {0}
 AreLent (Append work) snapshot = Unit {0}
 AreLent (Compact work) snapshot = length snapshot ≡ work.head.count
 
 -- with these records it makes the one content from the other
-abbrev pub IsMadeOf : Hand → List Record → Content → Content → Type 0
-IsMadeOf Empty snapshot before after = Unit {0}
+abbrev pub IsMadeOf : UnderWay → List Record → Content → Content → Type 0
+IsMadeOf Nothing snapshot before after = Unit {0}
 IsMadeOf (Append work) snapshot before after = Unit {0}
 IsMadeOf (Compact work) snapshot before after = after ≡ compacted before snapshot
 
 -- The disk has the content `before`, and `after` once the work under way is done, with these records if the journal is
 -- being rewritten.
-pub record HoldsWith (d : Disk) (place : Place) (hand : Hand) (snapshot : List Record)
+pub record HoldsWith (d : Disk) (place : Place) (under_way : UnderWay) (snapshot : List Record)
     (before after : Content) : Type 0 where
-  pub holds : IsHolding d place hand before after
-  pub made : IsMadeOf hand snapshot before after
+  pub holds : IsHolding d place under_way before after
+  pub made : IsMadeOf under_way snapshot before after
 
 -- after a device call of that work: it continues, or is done
-abbrev pub ComesTo : Disk → Place → Hand → Content → Content → Type 0
-ComesTo d place Empty before after = IsHolding d place Empty after after
+abbrev pub ComesTo : Disk → Place → UnderWay → Content → Content → Type 0
+ComesTo d place Nothing before after = IsHolding d place Nothing after after
 ComesTo d place (Append work) before after = IsHolding d place (Append work) before after
 ComesTo d place (Compact work) before after = IsHolding d place (Compact work) before after
 
 -- what the work under way requires of the place, and of itself
-abbrev pub FitsHand : Place → Hand → Type 0
-FitsHand place Empty = Unit {0}
-FitsHand place (Append work) = place.free < slots
-FitsHand place (Compact work) = (1 ≤ work.head.count) × (work.head.count ≤ slots)
+abbrev pub FitsUnderWay : Place → UnderWay → Type 0
+FitsUnderWay place Nothing = Unit {0}
+FitsUnderWay place (Append work) = place.free < slots
+FitsUnderWay place (Compact work) = (1 ≤ work.head.count) × (work.head.count ≤ slots)
     × IsCompactStage work.head.count work.stage
 
 -- the maximum number of device calls left
-abbrev pub left_of : Hand → ℕ
-left_of Empty = 0
+abbrev pub left_of : UnderWay → ℕ
+left_of Nothing = 0
 left_of (Append work) = calls_left (Some work.stage)
 left_of (Compact work) = compact_left work.head.count work.stage
 
 -- how many device calls of an append are left
-abbrev pub append_left : Hand → ℕ
-append_left Empty = 0
+abbrev pub append_left : UnderWay → ℕ
+append_left Nothing = 0
 append_left (Append work) = calls_left (Some work.stage)
 append_left (Compact work) = 0
 
 -- nothing is under way, or an append
-abbrev pub IsNoCompact : Hand → Type 0
+abbrev pub IsNoCompact : UnderWay → Type 0
 IsNoCompact (Compact work) = ⊥
-IsNoCompact hand = Unit {0}
+IsNoCompact under_way = Unit {0}
 
 -- the disk has this content, and nothing is under way
 abbrev pub HoldsContent : {D : Type 0} → (D → Disk) → JournalValue D → Content → Type 0
-HoldsContent disk_of j content = IsHolding (disk_in disk_of j) j.place j.hand content content
+HoldsContent disk_of j content = IsHolding (disk_in disk_of j) j.place j.under_way content content

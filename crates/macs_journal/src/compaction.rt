@@ -4,11 +4,11 @@ ghost use Rattle.std.specs.Prelude.{◌≡◌, ◌≤◌, ◌↔◌, None, IfSom
 ghost use Rattle.macs_journal.specs.Areas.{slots};
 ghost use Rattle.macs_journal.specs.Compacting.{Compacts, IsBegun, last_generation, next_head};
 ghost use Rattle.macs_journal.specs.Compacting.{with_nothing};
-ghost use Rattle.macs_journal.specs.Stepping.{IsCompactHand};
+ghost use Rattle.macs_journal.specs.Stepping.{IsCompactionUnderWay};
 ghost use Rattle.macs_journal.specs.Value.{IsIdle};
 
 use crate::fault::JournalFault;
-use crate::hand::Hand;
+use crate::under_way::UnderWay;
 use crate::journal::Journal;
 use crate::record_source::RecordSource;
 use macs_disk::SectorDisk;
@@ -56,10 +56,10 @@ impl<D: SectorDisk> Journal<D> {
 
     /// Whether a compaction is under way.
     fn is_compacting(&self) -> bool
-        ensures { IsTrue result ↔ IsCompactHand self.now.hand }
+        ensures { IsTrue result ↔ IsCompactionUnderWay self.now.under_way }
     {
-        match &self.hand {
-            Hand::Compact(_) => true,
+        match &self.under_way {
+            UnderWay::Compact(_) => true,
             _ => false,
         }
     }

@@ -11,17 +11,17 @@ ghost use Rattle.macs_journal.specs.Areas.{gate, least_sectors, slot_body, slots
 ghost use Rattle.macs_journal.specs.Found.{Content, HasJournal, content_with_record};
 ghost use Rattle.macs_journal.specs.Appending.{HasEitherJournal};
 ghost use Rattle.macs_journal.specs.Stepping.{AdvancesAppend};
-ghost use Rattle.macs_journal.specs.Value.{FitsHand, HoldsContent, IsHolding, IsIdle, IsNoCompact};
+ghost use Rattle.macs_journal.specs.Value.{FitsUnderWay, HoldsContent, IsHolding, IsIdle, IsNoCompact};
 ghost use Rattle.macs_journal.specs.Value.{JournalValue, append_left, current_area, device_in};
 ghost use Rattle.macs_journal.specs.Value.{disk_in, generation, is_stopped, used_slots};
 ghost use Rattle.macs_journal.specs.Work.{IsSpared, IsWorkOf};
 ghost use Rattle.macs_journal.specs.declared.fault.JournalFault.TheVariants.{Disk, Stopped};
-ghost use Rattle.macs_journal.specs.declared.hand.Hand.TheVariants.{Empty};
+ghost use Rattle.macs_journal.specs.declared.under_way.UnderWay.TheVariants.{Nothing};
 
 use crate::appending::perform;
 use crate::area::SLOTS;
 use crate::fault::JournalFault;
-use crate::hand::Hand;
+use crate::under_way::UnderWay;
 use crate::place::Place;
 use macs_disk::SectorDisk;
 use macs_record::Record;
@@ -33,7 +33,7 @@ use std::marker::Model;
 pub struct Journal<D: SectorDisk> {
     pub(crate) disk: D,
     pub(crate) place: Place,
-    pub(crate) hand: Hand,
+    pub(crate) under_way: UnderWay,
     pub(crate) stopped: bool,
 }
 
@@ -41,10 +41,10 @@ impl<D: SectorDisk> Model for Journal<D> {
     ghost Value = { JournalValue D };
 
     ghost view = { λ j.
-        record { disk = j.disk; place = j.place; hand = j.hand; stopped = j.stopped } };
+        record { disk = j.disk; place = j.place; under_way = j.under_way; stopped = j.stopped } };
 
     ghost invariant = { λ j. (least_sectors ≤ (D.disk j.disk).sectors) × (j.place.free ≤ slots)
-        × FitsHand j.place j.hand };
+        × FitsUnderWay j.place j.under_way };
 }
 
 impl<D: SectorDisk> Journal<D> {
@@ -52,12 +52,12 @@ impl<D: SectorDisk> Journal<D> {
     pub(crate) fn new(disk: D, place: Place) -> Journal<D>
         requires size { least_sectors ≤ (D.disk disk).sectors }
         requires few { place.free ≤ slots }
-        ensures { result ≡ record { disk = disk; place = place; hand = Empty; stopped = false } }
+        ensures { result ≡ record { disk = disk; place = place; under_way = Nothing; stopped = false } }
     {
         Journal {
             disk,
             place,
-            hand: Hand::Empty,
+            under_way: UnderWay::Nothing,
             stopped: false,
         }
     }
@@ -105,10 +105,10 @@ impl<D: SectorDisk> Journal<D> {
     pub fn is_idle(&self) -> bool
         ensures { IsTrue result ↔ IsIdle self.now }
     {
-        match &self.hand {
-            Hand::Empty => true,
-            Hand::Append(_) => false,
-            Hand::Compact(_) => false,
+        match &self.under_way {
+            UnderWay::Nothing => true,
+            UnderWay::Append(_) => false,
+            UnderWay::Compact(_) => false,
         }
     }
 
@@ -166,29 +166,29 @@ impl<D: SectorDisk> Journal<D> {
 
     /// Makes the calls of the append under way up to its end.
     fn finish_append(&mut self) -> Result<(), JournalFault>
-        requires no_compact { IsNoCompact self.old.hand }
+        requires no_compact { IsNoCompact self.old.under_way }
         requires running { is_stopped self.old ≡ false }
         ensures names { OnErr result (IsErrOf result Disk) }
         ensures work { IsWorkOf (disk_in D.disk self.old) (disk_in D.disk self.new) result }
         ensures few { (disk_in D.disk self.new).clock ≤ (disk_in D.disk self.old).clock
-            + append_left self.old.hand }
+            + append_left self.old.under_way }
         ensures calls { OnOk result ((disk_in D.disk self.new).clock
-            ≡ (disk_in D.disk self.old).clock + append_left self.old.hand) }
+            ≡ (disk_in D.disk self.old).clock + append_left self.old.under_way) }
         ensures after { is_stopped self.new ≡ is_err result }
         ensures idle { IsIdle self.new }
-        ensures moved { OnOk result (1 ≤ append_left self.old.hand
+        ensures moved { OnOk result (1 ≤ append_left self.old.under_way
             → self.new.place ≡ record self.old.place { free = self.old.place.free + 1 }) }
         ensures at_fault { OnErr result (self.new.place ≡ self.old.place) }
         ensures any_moment { IsHonest (disk_in D.disk self.new) → (before after : Content)
-            → IsHolding (disk_in D.disk self.old) self.old.place self.old.hand before after
+            → IsHolding (disk_in D.disk self.old) self.old.place self.old.under_way before after
             → Leaves (disk_in D.disk self.old) (disk_in D.disk self.new)
             (HasEitherJournal before after) }
         ensures done { OnOk result (IsHonest (disk_in D.disk self.new) → (before after : Content)
-            → IsHolding (disk_in D.disk self.old) self.old.place self.old.hand before after
-            → IsHolding (disk_in D.disk self.new) self.new.place self.new.hand after after) }
-        ensures gate { OnOk result (1 ≤ append_left self.old.hand
+            → IsHolding (disk_in D.disk self.old) self.old.place self.old.under_way before after
+            → IsHolding (disk_in D.disk self.new) self.new.place self.new.under_way after after) }
+        ensures gate { OnOk result (1 ≤ append_left self.old.under_way
             → IsHonest (disk_in D.disk self.new) → (before after : Content)
-            → IsHolding (disk_in D.disk self.old) self.old.place self.old.hand before after
+            → IsHolding (disk_in D.disk self.old) self.old.place self.old.under_way before after
             → (now (disk_in D.disk self.new)).seen
             (gate self.old.place.area (self.old.place.free + 1)) ≡ open_gate) }
         ensures others { IsHonest (disk_in D.disk self.new) → (i : ℕ)
@@ -204,38 +204,38 @@ impl<D: SectorDisk> Journal<D> {
 
     /// Whether an append is under way.
     fn has_work(&self) -> bool
-        requires no_compact { IsNoCompact self.now.hand }
-        ensures busy { IsTrue result ↔ (1 ≤ append_left self.now.hand) }
+        requires no_compact { IsNoCompact self.now.under_way }
+        ensures busy { IsTrue result ↔ (1 ≤ append_left self.now.under_way) }
         ensures idle { result ≡ false → IsIdle self.now }
     {
-        match &self.hand {
-            Hand::Append(_) => true,
+        match &self.under_way {
+            UnderWay::Append(_) => true,
             _ => false,
         }
     }
 
     /// One device call of the append under way. After a device fault nothing is under way.
     pub(crate) fn step_append(&mut self) -> Result<(), JournalFault>
-        requires busy { 1 ≤ append_left self.old.hand }
+        requires busy { 1 ≤ append_left self.old.under_way }
         requires running { is_stopped self.old ≡ false }
         ensures { AdvancesAppend D.disk self.old result self.new }
     {
         let Place { area, free, .. } = self.place;
-        let Hand::Append(work) = &self.hand else {
+        let UnderWay::Append(work) = &self.under_way else {
             return Ok(());
         };
         match perform(&mut self.disk, area, free, &work.sector, work.stage) {
             Ok(Some(stage)) => {
-                self.hand.go_on(stage);
+                self.under_way.go_on(stage);
                 Ok(())
             }
             Ok(None) => {
-                self.hand = Hand::Empty;
+                self.under_way = UnderWay::Nothing;
                 self.place.free += 1;
                 Ok(())
             }
             Err(_) => {
-                self.hand = Hand::Empty; // The next recovery finds the record or not.
+                self.under_way = UnderWay::Nothing; // The next recovery finds the record or not.
                 self.stopped = true;
                 Err(JournalFault::Disk)
             }

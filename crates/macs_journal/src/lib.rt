@@ -13,7 +13,7 @@ mod contents;
 mod fault;
 mod formatting;
 mod gates;
-mod hand;
+mod under_way;
 mod head_gate;
 mod heads;
 mod journal;

@@ -3,18 +3,18 @@
 ghost use Rattle.std.specs.Prelude.{◌≡◌, ◌<◌, ◌≤◌, ◌↔◌, false, length, IsTrue};
 ghost use Rattle.macs_journal.specs.Areas.{other_area, slots};
 ghost use Rattle.macs_journal.specs.Stepping.{Advances, AdvancesCompact, Appends, FitsWork};
-ghost use Rattle.macs_journal.specs.Stepping.{IsCompactHand, Renews};
+ghost use Rattle.macs_journal.specs.Stepping.{IsCompactionUnderWay, Compaction};
 ghost use Rattle.macs_journal.specs.Stepping.{Starts, Steps, step_of, task_of};
 ghost use Rattle.macs_journal.specs.Value.{AreLent, IsIdle, is_stopped, used_slots};
-ghost use Rattle.macs_journal.specs.declared.hand.Compacting.{Compacting};
-ghost use Rattle.macs_journal.specs.declared.hand.Hand.TheVariants.{Compact};
+ghost use Rattle.macs_journal.specs.declared.under_way.Compacting.{Compacting};
+ghost use Rattle.macs_journal.specs.declared.under_way.UnderWay.TheVariants.{Compact};
 
 use crate::appending::AppendStage;
 use crate::compact_calls::perform;
 use crate::compact_stage::CompactStage;
 use crate::compaction::next_head;
 use crate::fault::JournalFault;
-use crate::hand::{Appending, Compacting, Hand};
+use crate::under_way::{Appending, Compacting, UnderWay};
 use crate::journal::Journal;
 use crate::place::Place;
 use crate::record_source::RecordSource;
@@ -53,7 +53,7 @@ impl<D: SectorDisk> Journal<D> {
             return Err(JournalFault::Stopped);
         }
         record_in_range(value);
-        self.hand = Hand::Append(Appending {
+        self.under_way = UnderWay::Append(Appending {
             sector: encode(value),
             stage: AppendStage::Body,
         });
@@ -66,7 +66,7 @@ impl<D: SectorDisk> Journal<D> {
         requires idle { IsIdle self.old }
         requires some { (1 ≤ length (R.listed records.now))
             × (length (R.listed records.now) ≤ slots) }
-        ensures { Starts D.disk self.old (Renews (R.listed records.now)) result self.new }
+        ensures { Starts D.disk self.old (Compaction (R.listed records.now)) result self.new }
     {
         if self.stopped {
             return Err(JournalFault::Stopped);
@@ -75,7 +75,7 @@ impl<D: SectorDisk> Journal<D> {
         let Some(next) = next_head(&head, records.count() as u32) else {
             return Err(JournalFault::GenerationsSpent);
         };
-        self.hand = Hand::Compact(Compacting {
+        self.under_way = UnderWay::Compact(Compacting {
             head: next,
             stage: CompactStage::ReadGate(0),
         });
@@ -85,12 +85,12 @@ impl<D: SectorDisk> Journal<D> {
     /// Whether these records may be passed to the next step: if the journal is being rewritten
     /// there are as many as it was started with.
     pub fn may_lend(&self, snapshot: &[Record]) -> bool
-        ensures { IsTrue result ↔ AreLent self.now.hand snapshot.now }
+        ensures { IsTrue result ↔ AreLent self.now.under_way snapshot.now }
     {
-        match &self.hand {
-            Hand::Empty => true,
-            Hand::Append(_) => true,
-            Hand::Compact(work) => snapshot.len() as u64 == u64::from(work.head.count()),
+        match &self.under_way {
+            UnderWay::Nothing => true,
+            UnderWay::Append(_) => true,
+            UnderWay::Compact(work) => snapshot.len() as u64 == u64::from(work.head.count()),
         }
     }
 
@@ -101,7 +101,7 @@ impl<D: SectorDisk> Journal<D> {
     /// device call failed before, and with `Disk` if this one fails: then a power loss leaves the
     /// journal as before the work or as after it, and no work is under way.
     pub fn step(&mut self, snapshot: &[Record]) -> Result<JournalStep, JournalFault>
-        requires lent { AreLent self.old.hand snapshot.now }
+        requires lent { AreLent self.old.under_way snapshot.now }
         ensures { Steps D.disk self.old snapshot.now result self.new }
     {
         self.step_from(&snapshot)
@@ -110,7 +110,7 @@ impl<D: SectorDisk> Journal<D> {
     /// Makes the next device call, as `step` does, with the records of a source: one of them is
     /// read when its body is written, and none at any other call.
     pub fn step_from<R: RecordSource>(&mut self, snapshot: &R) -> Result<JournalStep, JournalFault>
-        requires lent { AreLent self.old.hand (R.listed snapshot.now) }
+        requires lent { AreLent self.old.under_way (R.listed snapshot.now) }
         ensures { Steps D.disk self.old (R.listed snapshot.now) result self.new }
     {
         if self.stopped {
@@ -126,12 +126,12 @@ impl<D: SectorDisk> Journal<D> {
 
     /// Whether the work under way continues: if none is under way it is finished.
     fn progress(&self) -> JournalStep
-        ensures { result ≡ step_of self.now.hand }
+        ensures { result ≡ step_of self.now.under_way }
     {
-        match &self.hand {
-            Hand::Empty => JournalStep::Finished,
-            Hand::Append(_) => JournalStep::Going,
-            Hand::Compact(_) => JournalStep::Going,
+        match &self.under_way {
+            UnderWay::Nothing => JournalStep::Finished,
+            UnderWay::Append(_) => JournalStep::Going,
+            UnderWay::Compact(_) => JournalStep::Going,
         }
     }
 
@@ -139,42 +139,42 @@ impl<D: SectorDisk> Journal<D> {
     fn advance<R: RecordSource>(&mut self, snapshot: &R) -> Result<(), JournalFault>
         requires busy { ¬ IsIdle self.old }
         requires running { is_stopped self.old ≡ false }
-        requires lent { AreLent self.old.hand (R.listed snapshot.now) }
+        requires lent { AreLent self.old.under_way (R.listed snapshot.now) }
         ensures { Advances D.disk self.old (R.listed snapshot.now) result self.new }
     {
-        match &self.hand {
-            Hand::Empty => Ok(()),
-            Hand::Append(_) => self.step_append(),
-            Hand::Compact(_) => self.step_compact(snapshot),
+        match &self.under_way {
+            UnderWay::Nothing => Ok(()),
+            UnderWay::Append(_) => self.step_append(),
+            UnderWay::Compact(_) => self.step_compact(snapshot),
         }
     }
 
     /// One device call of the compaction under way, of these records. After a device fault nothing
     /// is under way.
     pub(crate) fn step_compact<R: RecordSource>(&mut self, snapshot: &R) -> Result<(), JournalFault>
-        requires busy { IsCompactHand self.old.hand }
+        requires busy { IsCompactionUnderWay self.old.under_way }
         requires running { is_stopped self.old ≡ false }
-        requires lent { AreLent self.old.hand (R.listed snapshot.now) }
+        requires lent { AreLent self.old.under_way (R.listed snapshot.now) }
         ensures { AdvancesCompact D.disk self.old (R.listed snapshot.now) result self.new }
     {
         let Place { area, .. } = self.place;
         let other = area.other();
         let done = self.new_place();
-        let Hand::Compact(work) = &self.hand else {
+        let UnderWay::Compact(work) = &self.under_way else {
             return Ok(());
         };
         match perform(&mut self.disk, other, &work.head, snapshot, work.stage) {
             Ok(Some(stage)) => {
-                self.hand.compact_on(stage);
+                self.under_way.compact_on(stage);
                 Ok(())
             }
             Ok(None) => {
-                self.hand = Hand::Empty;
+                self.under_way = UnderWay::Nothing;
                 self.place = done;
                 Ok(())
             }
             Err(_) => {
-                self.hand = Hand::Empty; // The next recovery finds the earlier records or these.
+                self.under_way = UnderWay::Nothing; // The next recovery finds the earlier records or these.
                 self.stopped = true;
                 Err(JournalFault::Disk)
             }
@@ -183,7 +183,7 @@ impl<D: SectorDisk> Journal<D> {
 
     /// Where the journal continues once it is rewritten.
     fn new_place(&self) -> Place
-        ensures { (work : Compacting) → self.now.hand ≡ Compact work
+        ensures { (work : Compacting) → self.now.under_way ≡ Compact work
             → result ≡ record {
               area = other_area self.now.place.area;
               head = work.head;
@@ -192,8 +192,8 @@ impl<D: SectorDisk> Journal<D> {
             } }
     {
         let Place { area, .. } = self.place;
-        match &self.hand {
-            Hand::Compact(work) => Place {
+        match &self.under_way {
+            UnderWay::Compact(work) => Place {
                 area: area.other(),
                 head: work.head,
                 free: u64::from(work.head.count()),

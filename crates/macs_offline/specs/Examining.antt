@@ -30,7 +30,7 @@ use Rattle.macs_texts.specs.Lines.{line}
 use Rattle.macs_texts.specs.Showing.{association_numbers}
 use Rattle.macs_offline.specs.Copying.{CopyFails}
 use Rattle.macs_cli.specs.Failing.{failure_of_journal}
-use Rattle.macs_offline.specs.FirstFault.{IsFirstFault}
+use Rattle.macs_journal.specs.FirstFault.{IsFirstFault}
 use Rattle.macs_cli.specs.Reasons.{IsNotRead}
 use Rattle.macs_offline.specs.RecordLines.{records_text}
 use Rattle.macs_offline.specs.declared.examined_text.Figures.{Figures}

@@ -1,4 +1,4 @@
-//! The subcommands that run no endpoint: `open`, `key`, `plan`, `inspect`, `check` and `examine`; and
+//! The subcommands that write no disk file: `open`, `key`, `plan`, `inspect`, `check` and `examine`; and
 //! the files of commands, captures and disks that all subcommands open.
 #![tactic(auto)]
 

@@ -1,9 +1,9 @@
--- What a journal stands for that starts over with a snapshot of what it stood for.
+-- What a journal stands for after a compaction with a snapshot of what it stood for.
 use Rattle.std.proofs.Common.{◌≡◌, ◌∙◌, true, List, [], length, take, drop, Option, Some, ap, sym, arith}
 use Rattle.std.specs.Option.{option_and_then}
 use Rattle.std.proofs.lemmas.List.{drop_all, take_all}
 use Rattle.macs_config.specs.Config.{Edition}
-use Rattle.macs_journal.specs.Renewal.{compacted}
+use Rattle.macs_journal.specs.Compacted.{compacted}
 use Rattle.macs_journal.specs.Found.{Content}
 use Rattle.macs_record.specs.declared.record.Record.{Record}
 use Rattle.macs_store.specs.Replay.{meaning_of, snapshot_of, standing_after_records}
@@ -11,7 +11,7 @@ use Rattle.macs_store.specs.Standing.{Standing}
 use Rattle.macs_store.proofs.Formats.{meaning-read, two-read}
 use Rattle.macs_store.proofs.Identities.{meaning-identity}
 
--- what a journal stands for that started over with a snapshot of what it stood for
+-- what a journal stands for after a compaction with a snapshot of what it stood for
 pub meaning-compacted : (edition : Edition) (c : Content) (s : Standing) (records : List Record)
     → edition.format_two ≡ true → meaning_of edition c ≡ Some s
     → snapshot_of edition s.identity records ≡ Some s → meaning_of edition (compacted c records) ≡ Some s

@@ -16,7 +16,7 @@ use Rattle.macs_store.specs.Table.{standing_of}
 use Rattle.macs_store.specs.Value.{IsIdle, IsStored, StoreValue, calls_left, disk_in}
 use Rattle.macs_store.specs.Value.{generation_then, generation_with, is_stopped, slots_then, slots_with, standing_in}
 use Rattle.macs_store.specs.Value.{standing_then, standing_with}
-use Rattle.macs_store.proofs.Keeping.{in_hand-image, stored-image}
+use Rattle.macs_store.proofs.Keeping.{under_way-image, stored-image}
 
 -- ---- what holds between two steps
 
@@ -55,7 +55,7 @@ module _ {D : Type 0} (disk_of : D → Disk) (s : StoreValue D) where
       → Leaves (disk_in disk_of s) (disk_in disk_of s) (StandsForEither (standing_in s) after)
   alone stored after follows =
       Leaves-start (disk_in disk_of s) (StandsForEither (standing_in s) after)
-      (in_hand-image disk_of s stored after follows)
+      (under_way-image disk_of s stored after follows)
 
   pub way-start : is_stopped s ≡ false → IsOnItsWay disk_of s s
   way-start runs = record {

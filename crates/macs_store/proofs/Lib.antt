@@ -6,7 +6,7 @@ pub mod Identities
 pub mod Keeping
 pub mod Compacting
 pub mod Migrating
-mod InHand
+mod Started
 mod Turns
 pub mod StartedCommands
 pub mod EachStep

@@ -22,13 +22,13 @@ use Rattle.macs_journal.specs.Value.{HoldsContent, IsMadeOf, JournalValue, conte
 use Rattle.macs_journal.specs.declared.fault.JournalFault.{JournalFault}
 use Rattle.macs_journal.specs.declared.fault.JournalFault.TheVariants.{BadJournal, Disk as Failed, GenerationsSpent}
 use Rattle.macs_journal.specs.declared.fault.JournalFault.TheVariants.{Stopped, TooSmall}
-use Rattle.macs_journal.specs.declared.hand.Hand as journal_hand
+use Rattle.macs_journal.specs.declared.under_way.UnderWay as journal_under_way
 use Rattle.macs_journal.proofs.Current.{one_content}
 use Rattle.macs_journal.proofs.Holding.{held-image, held-ready}
 use Rattle.macs_journal.proofs.Spared.{Spared-on}
 use Rattle.macs_journal.proofs.Untouched.{spared-from-first}
 use Rattle.macs_store.specs.Found.{IsOld, IsToMigrate, IsUnfitTo, StandingIs, StandsFor}
-use Rattle.macs_store.specs.Opening.{BeginsAnew, HasNoneToMigrate, IsMigration, IsUnfit, MigrationLeaves, OpeningLeaves}
+use Rattle.macs_store.specs.Opening.{CompactsHeld, HasNoneToMigrate, IsMigration, IsUnfit, MigrationLeaves, OpeningLeaves}
 use Rattle.macs_store.specs.Opening.{Opens, RefusesDisk, TakesUp, WritesNothing}
 use Rattle.macs_store.specs.Replay.{meaning_of, migrates, reading_of, snapshot_of}
 use Rattle.macs_store.specs.Snapshot.{snapshot}
@@ -36,7 +36,7 @@ use Rattle.macs_store.specs.Standing.{Standing}
 use Rattle.macs_store.specs.Table.{standing_of}
 use Rattle.macs_store.specs.Value.{IsIdle, IsStored, LeadsTo, StoreValue, device_in, disk_in, standing_in}
 use Rattle.macs_store.specs.Value.{standing_next}
-use Rattle.macs_store.specs.Kept.{Change}
+use Rattle.macs_store.specs.UnderWay.{UnderWay}
 use Rattle.macs_store.proofs.Compacting.{meaning-compacted}
 
 -- ---- over plain values
@@ -65,7 +65,7 @@ is_two : (format : Format) → migrates this_edition format ≡ false → format
 is_two One gone_on = absurd (no_true gone_on)
 is_two Two gone_on = refl
 
--- and a journal of that format is not one to start over
+-- and a journal of that format is not one to compact
 pub not-old : (image : Image) (c : Content) (s : Standing) → HasFormat image Two → IsOld this_edition image c s → ⊥
 not-old image c s is old =
     let same = one_content image c is.content old.found is.found in
@@ -96,11 +96,11 @@ idle_stored disk_of s c idle rests holds stands form = record {
   next = c;
   holding = record {
     holds = holds;
-    made = subst (λ (h : journal_hand.Hand). IsMadeOf h (snapshot (standing_in s)) c c) (sym rests) tt;
+    made = subst (λ (h : journal_under_way.UnderWay). IsMadeOf h (snapshot (standing_in s)) c c) (sym rests) tt;
   };
   stands = stands;
-  becomes = subst (λ (h : Change). meaning_of this_edition c ≡ standing_next (standing_in s) h) (sym idle) stands;
-  leads = subst (λ (h : Change). LeadsTo h c c) (sym idle) refl;
+  becomes = subst (λ (h : UnderWay). meaning_of this_edition c ≡ standing_next (standing_in s) h) (sym idle) stands;
+  leads = subst (λ (h : UnderWay). LeadsTo h c c) (sym idle) refl;
   form = form;
   form_next = form;
 }
@@ -243,7 +243,7 @@ module _ {D : Type 0} (disk_of : D → Disk) (disk : D) (sound : IsHonest (disk_
 
       module _ (old_format : migrates this_edition format ≡ true) (result : Result (Unit {0}) JournalFault)
           (t : StoreValue D)
-          (begins : BeginsAnew disk_of s result t) where
+          (begins : CompactsHeld disk_of s result t) where
         abbrev new : Disk
         new = disk_in disk_of t
 
@@ -253,11 +253,11 @@ module _ {D : Type 0} (disk_of : D → Disk) (disk : D) (sound : IsHonest (disk_
         abbrev next : Content
         next = compacted content kept
 
-        anew : Works mid new
-        anew = begins.compacts.work.works
+        compacting_works : Works mid new
+        compacting_works = begins.compacts.work.works
 
         back : IsHonest new → IsHonest mid
-        back honest = sym anew.honest ∙ honest
+        back honest = sym compacting_works.honest ∙ honest
 
         next_stands : meaning_of this_edition next ≡ Some (standing_in s)
         next_stands = meaning-compacted this_edition content (standing_in s) kept refl stands begins.stands
@@ -286,7 +286,7 @@ module _ {D : Type 0} (disk_of : D → Disk) (disk : D) (sound : IsHonest (disk_
         migration honest = record {
           any_moment = either honest;
           others = λ i none.
-              Spared-on old mid new i is.device.works anew
+              Spared-on old mid new i is.device.works compacting_works
               (spared-from-first old mid i (was_sound (back honest)) is.device.works
               (is.device.from_first (back honest)) (inr (is.device.settled (back honest))))
               (begins.compacts.others honest i
@@ -317,7 +317,7 @@ module _ {D : Type 0} (disk_of : D → Disk) (disk : D) (sound : IsHonest (disk_
         alike_leaves honest = Leaves-weaker old new (MigrationLeaves old content (standing_in s)) (OpeningLeaves old)
             (alike (back honest)) (either honest)
 
-        -- whatever journal is to start over, it is this one
+        -- whatever journal is to be compacted, it is this one
         this_one : (P : Content → Standing → Type 0) → IsHonest mid → (c : Content) (x : Standing)
             → IsToMigrate this_edition (now old).seen c x
             → P content (standing_in s) → P c x
@@ -330,15 +330,15 @@ module _ {D : Type 0} (disk_of : D → Disk) (disk : D) (sound : IsHonest (disk_
 
       -- the journal is rewritten
       module _ (old_format : migrates this_edition format ≡ true) (t : StoreValue D)
-          (begins : BeginsAnew disk_of s done t) where
+          (begins : CompactsHeld disk_of s done t) where
         abbrev after : Disk
         after = disk_in disk_of t
 
         abbrev later : Content
         later = compacted content (snapshot (standing_in s))
 
-        holds_anew : IsHonest after → HoldsContent disk_of t.journal later
-        holds_anew honest = begins.compacts.done honest content (is.holds (back old_format done t begins honest))
+        holds_later : IsHonest after → HoldsContent disk_of t.journal later
+        holds_later honest = begins.compacts.done honest content (is.holds (back old_format done t begins honest))
 
         to_migrate : IsHonest mid → IsToMigrate this_edition (now old).seen content (standing_in s)
         to_migrate honest = record {
@@ -347,8 +347,8 @@ module _ {D : Type 0} (disk_of : D → Disk) (disk : D) (sound : IsHonest (disk_
               absurd (let spent : done ≡ refused GenerationsSpent = begins.compacts.spent.1 (is.running, last) in cc);
         }
 
-        opened_anew : Opens disk_of disk t
-        opened_anew =
+        opened_later : Opens disk_of disk t
+        opened_later =
             let same = sym (same_standing old_format done t begins) in
             let before : IsHonest after → IsHonest mid = back old_format done t begins in
             record {
@@ -357,7 +357,7 @@ module _ {D : Type 0} (disk_of : D → Disk) (disk : D) (sound : IsHonest (disk_
                 works = Works-on old mid after is.device.works begins.compacts.work.works;
                 fails = begins.compacts.work.fails ∙ is.device.fails;
                 settled =
-                    λ honest. ready_settled (now after) later (held-ready disk_of t.journal later (holds_anew honest));
+                    λ honest. ready_settled (now after) later (held-ready disk_of t.journal later (holds_later honest));
                 format = λ honest image left. record {
                   content = later;
                   found = begins.compacts.kept honest content (is.holds (before honest)) image left;
@@ -369,21 +369,21 @@ module _ {D : Type 0} (disk_of : D → Disk) (disk : D) (sound : IsHonest (disk_
                     this_one old_format done t begins (λ c x. IsMigration old after c x
                     × IsReady (now after) (compacted c (snapshot x))) (before honest) c
                     (standing_in t) to
-                    (migration old_format done t begins honest, held-ready disk_of t.journal later (holds_anew honest));
+                    (migration old_format done t begins honest, held-ready disk_of t.journal later (holds_later honest));
               };
               running = begins.compacts.running.0;
-              idle = begins.hand ∙ idle;
+              idle = begins.under_way ∙ idle;
               found = λ honest. subst (λ (x : Standing). StandingIs this_edition old.sectors (now old).seen (Ok x)) same
                   (is_found (before honest));
               stored = λ honest.
-                  idle_stored disk_of t later (begins.hand ∙ idle) begins.compacts.running.1 (holds_anew honest)
+                  idle_stored disk_of t later (begins.under_way ∙ idle) begins.compacts.running.1 (holds_later honest)
                   (subst (λ (x : Standing). meaning_of this_edition later ≡ Some x) same
                   (next_stands old_format done t begins)) refl;
             }
 
-      -- it cannot start over: its generation is the last
+      -- it cannot be compacted: its generation is the last
       module _ (old_format : migrates this_edition format ≡ true) (t : StoreValue D)
-          (begins : BeginsAnew disk_of s (refused GenerationsSpent) t) where
+          (begins : CompactsHeld disk_of s (refused GenerationsSpent) t) where
         spent_same : IsErrOf (refused GenerationsSpent) Failed ⊎ (t.journal ≡ s.journal) → device_in t ≡ device_in s
         spent_same (inl failed) = absurd cc
         spent_same (inr same) = ap (λ (j : JournalValue D). j.disk) same
@@ -418,7 +418,7 @@ module _ {D : Type 0} (disk_of : D → Disk) (disk : D) (sound : IsHonest (disk_
 
       -- a device call failed meanwhile
       module _ (old_format : migrates this_edition format ≡ true) (t : StoreValue D)
-          (begins : BeginsAnew disk_of s (refused Failed) t) where
+          (begins : CompactsHeld disk_of s (refused Failed) t) where
         cut_to : IsHonest mid → IsToMigrate this_edition (now old).seen content (standing_in s)
         cut_to honest = record {
           is = is_old old_format (refused Failed) t begins honest;
@@ -447,7 +447,7 @@ module _ {D : Type 0} (disk_of : D → Disk) (disk : D) (sound : IsHonest (disk_
       -- ---- whatever fault is answered
 
       module _ (old_format : migrates this_edition format ≡ true) (t : StoreValue D) where
-        by_name : (fault : JournalFault) → BeginsAnew disk_of s (refused fault) t
+        by_name : (fault : JournalFault) → CompactsHeld disk_of s (refused fault) t
             → IsErrOf (refused fault) Stopped
             ⊎ (IsErrOf (refused fault) GenerationsSpent ⊎ IsErrOf (refused fault) Failed)
             → RefusesDisk disk_of disk (device_in t) fault
@@ -456,15 +456,15 @@ module _ {D : Type 0} (disk_of : D → Disk) (disk : D) (sound : IsHonest (disk_
             let named = same_fault fault GenerationsSpent spent in
             subst (λ (f : JournalFault). RefusesDisk disk_of disk (device_in t) f) (sym named)
             (refused_at_last old_format t
-            (subst (λ (f : JournalFault). BeginsAnew disk_of s (refused f) t) named begins))
+            (subst (λ (f : JournalFault). CompactsHeld disk_of s (refused f) t) named begins))
         by_name fault begins (inr (inr failed)) =
             let named = same_fault fault Failed failed in
             subst (λ (f : JournalFault). RefusesDisk disk_of disk (device_in t) f) (sym named)
-            (refused_cut old_format t (subst (λ (f : JournalFault). BeginsAnew disk_of s (refused f) t) named begins))
+            (refused_cut old_format t (subst (λ (f : JournalFault). CompactsHeld disk_of s (refused f) t) named begins))
 
       opens_by : (b : Bool) → migrates this_edition format ≡ b → (t : StoreValue D) → TakesUp disk_of true b s done t
           → Opens disk_of disk t
-      opens_by true old_format t begins = opened_anew old_format t begins
+      opens_by true old_format t begins = opened_later old_format t begins
       opens_by false two t takes =
           subst (λ (x : StoreValue D). Opens disk_of disk x) (sym takes.1) (opened_as_found two)
 
@@ -497,7 +497,7 @@ module _ {D : Type 0} (disk_of : D → Disk) (disk : D) (sound : IsHonest (disk_
 
 -- ---- what the calls of a store give
 
--- a journal that started over, or did not, has no work
+-- a journal that was compacted, or was not, has no work
 module _ {D : Type 0} (disk_of : D → Disk) (j k : JournalValue D) (records : List Record) where
   pub compacted-idle : (result : Result (Unit {0}) JournalFault) → Compacts disk_of j records result k
       → journal.IsIdle j → journal.IsIdle k
@@ -507,24 +507,24 @@ module _ {D : Type 0} (disk_of : D → Disk) (j k : JournalValue D) (records : L
     | inr same ↦ subst (λ (x : JournalValue D). journal.IsIdle x) (sym same) rests
   ]
 
-pub begun-anew : {D : Type 0} (disk_of : D → Disk) (s : StoreValue D) (j : JournalValue D)
+pub compacts-held : {D : Type 0} (disk_of : D → Disk) (s : StoreValue D) (j : JournalValue D)
     (result : Result (Unit {0}) JournalFault)
     → snapshot_of this_edition (standing_in s).identity (snapshot (standing_in s)) ≡ Some (standing_in s)
     → Compacts disk_of s.journal (snapshot (standing_in s)) result j
-    → BeginsAnew disk_of s result (record s { journal = j })
-begun-anew disk_of s j result stands compacts =
-    record { compacts = compacts; held = refl; hand = refl; stands = stands }
+    → CompactsHeld disk_of s result (record s { journal = j })
+compacts-held disk_of s j result stands compacts =
+    record { compacts = compacts; held = refl; under_way = refl; stands = stands }
 
 module _ {D : Type 0} (disk_of : D → Disk) (s t : StoreValue D) (result : Result (Unit {0}) JournalFault) where
   pub taken-unread : (is_read aged : Bool) → is_read ≡ false → TakesUp disk_of is_read aged s (refused BadJournal) s
   taken-unread true aged unread = absurd (no_true unread)
   taken-unread false aged unread = (refl, refl)
 
-  pub taken-anew : (is_read aged : Bool) → is_read ≡ true → aged ≡ true → BeginsAnew disk_of s result t
+  pub taken-compacted : (is_read aged : Bool) → is_read ≡ true → aged ≡ true → CompactsHeld disk_of s result t
       → TakesUp disk_of is_read aged s result t
-  taken-anew true true was_read was_old begins = begins
-  taken-anew true false was_read was_old begins = absurd (no_false was_old)
-  taken-anew false aged was_read was_old begins = absurd (no_false was_read)
+  taken-compacted true true was_read was_old begins = begins
+  taken-compacted true false was_read was_old begins = absurd (no_false was_old)
+  taken-compacted false aged was_read was_old begins = absurd (no_false was_read)
 
   pub taken-as-found : (is_read aged : Bool) → is_read ≡ true → aged ≡ false → TakesUp disk_of is_read aged s done s
   taken-as-found true true was_read was_old = absurd (no_true was_old)

@@ -35,14 +35,14 @@ raise-started disk_of old r after (Ok done) new follows starts = record {
   spent = starts.spent;
   names = tt;
   same = tt;
-  in_hand = starts.in_hand after follows;
+  under_way = starts.under_way after follows;
 }
 raise-started disk_of old r after (Err at) new follows starts = record {
   stopped = starts.stopped;
   spent = starts.spent;
   names = starts.names;
   same = starts.same;
-  in_hand = tt;
+  under_way = tt;
 }
 
 -- and one that follows
@@ -77,7 +77,7 @@ module _ {D : Type 0} (disk_of : D → Disk) (s : StoreValue D) (command : Comma
     );
     names = λ same. (let no : commit_fault.Stopped ≡ commit_fault.Disk = cc in cc);
     same = refl;
-    in_hand = tt;
+    under_way = tt;
   }
 
   pub commit-refused : (refusal : Refusal) → is_stopped s ≡ false → accept (standing_in s) command ≡ Err (Named refusal)
@@ -99,7 +99,7 @@ module _ {D : Type 0} (disk_of : D → Disk) (s : StoreValue D) (command : Comma
     );
     names = λ same. (let no : commit_fault.Refused refusal ≡ commit_fault.Disk = cc in cc);
     same = refl;
-    in_hand = tt;
+    under_way = tt;
   }
 
   module _ (r : Record) (new : StoreValue D) (has : record_of command ≡ Some r)
@@ -114,14 +114,14 @@ module _ {D : Type 0} (disk_of : D → Disk) (s : StoreValue D) (command : Comma
           spent = (λ same. absurd cc, λ all. absurd (let is = starts.spent.1 all.1 in cc));
           names = λ same. cc;
           same = tt;
-          in_hand = (
+          under_way = (
             accepts.0,
             accepts.1,
-            starts.in_hand accepts.0 (accepted-follows (standing_in s) accepts.0 command r has accepts.1),
+            starts.under_way accepts.0 (accepted-follows (standing_in s) accepts.0 command r has accepts.1),
           );
         }
 
-    -- the journal cannot start over
+    -- the journal cannot be compacted
     spent-is : (at : JournalFault) → StartsRecord disk_of s r (refused at) new → at ≡ fault.GenerationsSpent
     spent-is at starts = elim starts.names [
       | inl stopped ↦ absurd (let no : true ≡ false = sym (starts.stopped.0 stopped) ∙ runs in cc)
@@ -142,5 +142,5 @@ module _ {D : Type 0} (disk_of : D → Disk) (s : StoreValue D) (command : Comma
       spent = (λ same. (fits, starts.spent.0 (ap Err (spent-is at starts))), λ all. refl);
       names = λ same. (let no : commit_fault.GenerationsSpent ≡ commit_fault.Disk = cc in cc);
       same = starts.same;
-      in_hand = tt;
+      under_way = tt;
     }

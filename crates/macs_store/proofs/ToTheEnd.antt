@@ -16,7 +16,7 @@ use Rattle.macs_journal.specs.declared.fault.JournalFault.TheVariants as fault
 use Rattle.macs_store.specs.Found.{CommitLeaves, StandsFor, StandsForEither}
 use Rattle.macs_store.specs.Keeps.{Commits, IsCommitOf, IsSpent, Keeps, most_calls}
 use Rattle.macs_store.specs.Standing.{Standing, accept}
-use Rattle.macs_store.specs.Stepping.{Finishes, HasInHand, Starts, StartsCommit}
+use Rattle.macs_store.specs.Stepping.{Finishes, HasUnderWay, Starts, StartsCommit}
 use Rattle.macs_store.specs.Table.{standing_of}
 use Rattle.macs_store.specs.Value.{IsIdle, IsStored, StoreValue, disk_in, is_stopped, standing_in}
 use Rattle.macs_store.specs.declared.fault.CommitFault.{CommitFault}
@@ -26,7 +26,7 @@ use Rattle.macs_store.proofs.Keeping.{stored-form, stored-image}
 -- ---- work under way, done to its end
 
 module _ {D : Type 0} (disk_of : D → Disk) (old : StoreValue D) (after : Standing) (mid : StoreValue D)
-    (has : HasInHand disk_of old after mid) where
+    (has : HasUnderWay disk_of old after mid) where
   same-standing : standing_in mid ≡ standing_in old
   same-standing = ap standing_of has.standing
 
@@ -131,15 +131,15 @@ module _ {D : Type 0} (disk_of : D → Disk) (old : StoreValue D) (idle : IsIdle
       same = tt;
       halted = λ same. absurd cc;
       running = finishes.running;
-      idle = finishes.idle starts.in_hand.running;
-      slots = finishes.slots ∙ starts.in_hand.slots;
-      generation = finishes.generation ∙ starts.in_hand.generation;
-      most = end-most disk_of old after mid starts.in_hand (Ok tt) new finishes;
-      done = end-done disk_of old after mid starts.in_hand new finishes;
-      work = end-work disk_of old after mid starts.in_hand (Ok tt) new finishes;
-      any_moment = end-moments disk_of old after mid starts.in_hand (Ok tt) new finishes;
-      stored = end-stored disk_of old after mid starts.in_hand new finishes;
-      kept = end-kept disk_of old after mid starts.in_hand new finishes;
+      idle = finishes.idle starts.under_way.running;
+      slots = finishes.slots ∙ starts.under_way.slots;
+      generation = finishes.generation ∙ starts.under_way.generation;
+      most = end-most disk_of old after mid starts.under_way (Ok tt) new finishes;
+      done = end-done disk_of old after mid starts.under_way new finishes;
+      work = end-work disk_of old after mid starts.under_way (Ok tt) new finishes;
+      any_moment = end-moments disk_of old after mid starts.under_way (Ok tt) new finishes;
+      stored = end-stored disk_of old after mid starts.under_way new finishes;
+      kept = end-kept disk_of old after mid starts.under_way new finishes;
     }
 
     kept_failed : (new : StoreValue D) → Finishes disk_of mid (Err fault.Disk) new
@@ -149,15 +149,15 @@ module _ {D : Type 0} (disk_of : D → Disk) (old : StoreValue D) (idle : IsIdle
       spent = (λ same. absurd (let no : fault.Disk ≡ fault.GenerationsSpent = cc in cc), λ is. absurd (not_spent is));
       names = inr (inr refl);
       same = inl refl;
-      halted = λ same. ((finishes.halted refl).0, (finishes.halted refl).1 ∙ starts.in_hand.standing);
+      halted = λ same. ((finishes.halted refl).0, (finishes.halted refl).1 ∙ starts.under_way.standing);
       running = tt;
-      idle = finishes.idle starts.in_hand.running;
+      idle = finishes.idle starts.under_way.running;
       slots = tt;
       generation = tt;
-      most = end-most disk_of old after mid starts.in_hand (Err fault.Disk) new finishes;
+      most = end-most disk_of old after mid starts.under_way (Err fault.Disk) new finishes;
       done = tt;
-      work = end-work disk_of old after mid starts.in_hand (Err fault.Disk) new finishes;
-      any_moment = end-moments disk_of old after mid starts.in_hand (Err fault.Disk) new finishes;
+      work = end-work disk_of old after mid starts.under_way (Err fault.Disk) new finishes;
+      any_moment = end-moments disk_of old after mid starts.under_way (Err fault.Disk) new finishes;
       stored = tt;
       kept = tt;
     }
@@ -166,7 +166,7 @@ module _ {D : Type 0} (disk_of : D → Disk) (old : StoreValue D) (idle : IsIdle
         → Finishes disk_of mid result new → Keeps disk_of old after result new
     finished-keeps (Ok done) new finishes = kept_done new finishes
     finished-keeps (Err at) new finishes = elim finishes.names [
-      | inl stopped ↦ absurd (end-runs disk_of old after mid starts.in_hand (Err at) new finishes stopped)
+      | inl stopped ↦ absurd (end-runs disk_of old after mid starts.under_way (Err at) new finishes stopped)
       | inr failed ↦ subst (λ (x : Result (Unit {0}) JournalFault). Keeps disk_of old after x new) (sym failed)
           (kept_failed new (subst (λ (x : Result (Unit {0}) JournalFault). Finishes disk_of mid x new) failed finishes))
     ]
@@ -227,7 +227,7 @@ module _ {D : Type 0} (disk_of : D → Disk) (old : StoreValue D) (idle : IsIdle
 
   module _ (mid : StoreValue D) (starts : StartsCommit disk_of old command (Ok tt) mid) where
     fits : IsOk (accept (standing_in old) command)
-    fits = subst (λ r. IsOk r) (sym starts.in_hand.1) refl
+    fits = subst (λ r. IsOk r) (sym starts.under_way.1) refl
 
     was_running : is_stopped old ≡ true → ⊥
     was_running is = let no = starts.stopped.1 is in cc
@@ -241,8 +241,8 @@ module _ {D : Type 0} (disk_of : D → Disk) (old : StoreValue D) (idle : IsIdle
     -- the command was kept and applied
     pub kept-commits : (new : StoreValue D) → Finishes disk_of mid (Ok tt) new → Commits disk_of old command (Ok tt) new
     kept-commits new finishes =
-        let after = starts.in_hand.0 in
-        let has = starts.in_hand.2 in
+        let after = starts.under_way.0 in
+        let has = starts.under_way.2 in
         record {
           stopped = (λ same. absurd cc, λ is. absurd (was_running is));
           refused = λ refusal. (λ same. absurd cc, λ both. absurd (was_accepted refusal both.1));
@@ -254,12 +254,12 @@ module _ {D : Type 0} (disk_of : D → Disk) (old : StoreValue D) (idle : IsIdle
           slots = finishes.slots ∙ has.slots;
           generation = finishes.generation ∙ has.generation;
           most = end-most disk_of old after mid has (Ok tt) new finishes;
-          done = starts.in_hand.1 ∙ ap Ok (sym (end-done disk_of old after mid has new finishes));
+          done = starts.under_way.1 ∙ ap Ok (sym (end-done disk_of old after mid has new finishes));
           work = (let work = end-work disk_of old after mid has (Ok tt) new finishes in
               record { works = work.works; fails = work.fails });
           any_moment = λ honest stored.
               accepted-leaves (disk_in disk_of old) (disk_in disk_of new) (standing_in old) after command
-              starts.in_hand.1
+              starts.under_way.1
               (end-moments disk_of old after mid has (Ok tt) new finishes honest stored);
           stored = end-stored disk_of old after mid has new finishes;
           kept = end-kept disk_of old after mid has new finishes;
@@ -269,8 +269,8 @@ module _ {D : Type 0} (disk_of : D → Disk) (old : StoreValue D) (idle : IsIdle
     cut-commits : (new : StoreValue D) → Finishes disk_of mid (Err fault.Disk) new
         → Commits disk_of old command (Err commit_fault.Disk) new
     cut-commits new finishes =
-        let after = starts.in_hand.0 in
-        let has = starts.in_hand.2 in
+        let after = starts.under_way.0 in
+        let has = starts.under_way.2 in
         record {
           stopped = (
             λ same. absurd (let no : commit_fault.Disk ≡ commit_fault.Stopped = cc in
@@ -299,7 +299,7 @@ module _ {D : Type 0} (disk_of : D → Disk) (old : StoreValue D) (idle : IsIdle
               record { works = work.works; fails = work.fails });
           any_moment = λ honest stored.
               accepted-leaves (disk_in disk_of old) (disk_in disk_of new) (standing_in old) after command
-              starts.in_hand.1
+              starts.under_way.1
               (end-moments disk_of old after mid has (Err fault.Disk) new finishes honest stored);
           stored = tt;
           kept = tt;
@@ -308,7 +308,7 @@ module _ {D : Type 0} (disk_of : D → Disk) (old : StoreValue D) (idle : IsIdle
     pub failed-commits : (at : JournalFault) (new : StoreValue D) → Finishes disk_of mid (Err at) new
         → Commits disk_of old command (Err commit_fault.Disk) new
     failed-commits at new finishes = elim finishes.names [
-      | inl stopped ↦ absurd (end-runs disk_of old starts.in_hand.0 mid starts.in_hand.2 (Err at) new finishes stopped)
+      | inl stopped ↦ absurd (end-runs disk_of old starts.under_way.0 mid starts.under_way.2 (Err at) new finishes stopped)
       | inr failed ↦ cut-commits new
           (subst (λ (x : Result (Unit {0}) JournalFault). Finishes disk_of mid x new) failed finishes)
     ]

@@ -8,14 +8,14 @@ use Rattle.macs_disk.proofs.Moments.{Leaves-start, Leaves-weaker, Works-start}
 use Rattle.macs_journal.specs.Appending.{HasEitherJournal}
 use Rattle.macs_journal.specs.Found.{Content, content_with_record}
 use Rattle.macs_journal.specs.Stepping as journal
-use Rattle.macs_journal.specs.Stepping.{Appends, IsAppendHand, IsSameTask, RenewsWith, place_then}
+use Rattle.macs_journal.specs.Stepping.{Appends, IsAppendUnderWay, IsSameTask, CompactsWith, place_then}
 use Rattle.macs_journal.specs.Value.{HoldsWith, IsMadeOf, IsNoCompact, JournalValue, left_of}
 use Rattle.macs_journal.specs.Value as journal_value
 use Rattle.macs_journal.specs.Work.{IsWorkOf}
 use Rattle.macs_journal.specs.declared.fault.JournalFault.{JournalFault}
 use Rattle.macs_journal.specs.declared.fault.JournalFault.TheVariants as fault
-use Rattle.macs_journal.specs.declared.hand.Hand as journal_hand
-use Rattle.macs_journal.specs.declared.hand.Hand.TheVariants as journal_work
+use Rattle.macs_journal.specs.declared.under_way.UnderWay as journal_under_way
+use Rattle.macs_journal.specs.declared.under_way.UnderWay.TheVariants as journal_work
 use Rattle.macs_journal.specs.declared.place.Place.{Place}
 use Rattle.macs_journal.specs.declared.work.JournalStep.{JournalStep}
 use Rattle.macs_journal.specs.declared.work.JournalStep.TheVariants.{Finished, Going, Idle}
@@ -26,15 +26,15 @@ use Rattle.macs_store.specs.Found.{StandsForEither}
 use Rattle.macs_store.specs.Replay.{meaning_of, standing_after_record}
 use Rattle.macs_store.specs.Snapshot.{snapshot}
 use Rattle.macs_store.specs.Standing.{Standing}
-use Rattle.macs_store.specs.Stepping.{IsAppending, IsRenewing, Steps}
+use Rattle.macs_store.specs.Stepping.{IsAppending, IsCompacting, Steps}
 use Rattle.macs_store.specs.Table.{StandingValue, standing_of}
-use Rattle.macs_store.specs.Value.{FitsChange, IsIdle, IsStored, StoreValue, calls_left, calls_with, disk_in}
+use Rattle.macs_store.specs.Value.{FitsUnderWay, IsIdle, IsStored, StoreValue, calls_left, calls_with, disk_in}
 use Rattle.macs_store.specs.Value.{generation_with, is_stopped, slots_with, snapshot_length, standing_in, standing_next}
 use Rattle.macs_store.specs.Value.{standing_then, standing_with}
-use Rattle.macs_store.specs.Kept.{Change}
-use Rattle.macs_store.specs.Kept.{Appending, Empty, Renewing}
-use Rattle.macs_store.proofs.InHand.{task-appends}
-use Rattle.macs_store.proofs.Keeping.{either-image, held-within, in_hand-image, standing-with, stored-image}
+use Rattle.macs_store.specs.UnderWay.{UnderWay}
+use Rattle.macs_store.specs.UnderWay.{Appending, Nothing, Compacting}
+use Rattle.macs_store.proofs.Started.{task-appends}
+use Rattle.macs_store.proofs.Keeping.{either-image, held-within, under_way-image, standing-with, stored-image}
 
 -- what a step answers
 abbrev answers : JournalStep → Result JournalStep JournalFault
@@ -50,7 +50,7 @@ module _ {D : Type 0} (disk_of : D → Disk) (s : StoreValue D) where
       → Leaves (disk_in disk_of s) (disk_in disk_of s) (StandsForEither (standing_in s) after)
   nothing-new stored after follows =
       Leaves-start (disk_in disk_of s) (StandsForEither (standing_in s) after)
-      (in_hand-image disk_of s stored after follows)
+      (under_way-image disk_of s stored after follows)
 
   rests-stopped : is_stopped s ≡ true → Steps disk_of s (refuses fault.Stopped) s
   rests-stopped is = record {
@@ -110,23 +110,23 @@ module _ {D : Type 0} (disk_of : D → Disk) (s : StoreValue D) where
 -- ---- what is read of a store with work under way
 
 -- the slots, the generation and the calls, by what is read of its journal
-slots-kept : {D : Type 0} (old new : StoreValue D) (hand : Change) → new.journal.place ≡ old.journal.place
-    → new.held ≡ old.held → slots_with new hand ≡ slots_with old hand
-slots-kept old new Empty place held = ap (λ (p : Place). p.free) place
-slots-kept old new (Renewing r) place held = ap (λ (h : StandingValue). length (snapshot (standing_of h)) + 1) held
+slots-kept : {D : Type 0} (old new : StoreValue D) (under_way : UnderWay) → new.journal.place ≡ old.journal.place
+    → new.held ≡ old.held → slots_with new under_way ≡ slots_with old under_way
+slots-kept old new Nothing place held = ap (λ (p : Place). p.free) place
+slots-kept old new (Compacting r) place held = ap (λ (h : StandingValue). length (snapshot (standing_of h)) + 1) held
 slots-kept old new (Appending r) place held = ap (λ (p : Place). p.free + 1) place
 
-generation-kept : {D : Type 0} (old new : StoreValue D) (hand : Change) → new.journal.place ≡ old.journal.place
-    → generation_with new hand ≡ generation_with old hand
-generation-kept old new Empty place = ap (λ (p : Place). p.head.generation) place
-generation-kept old new (Renewing r) place = ap (λ (p : Place). p.head.generation + 1) place
+generation-kept : {D : Type 0} (old new : StoreValue D) (under_way : UnderWay) → new.journal.place ≡ old.journal.place
+    → generation_with new under_way ≡ generation_with old under_way
+generation-kept old new Nothing place = ap (λ (p : Place). p.head.generation) place
+generation-kept old new (Compacting r) place = ap (λ (p : Place). p.head.generation + 1) place
 generation-kept old new (Appending r) place = ap (λ (p : Place). p.head.generation) place
 
-calls-fewer : {D : Type 0} (old new : StoreValue D) (hand : Change) → hand ≢ Empty
-    → left_of new.journal.hand + 1 ≤ left_of old.journal.hand
-    → calls_with new hand + 1 ≤ calls_with old hand
-calls-fewer old new Empty busy less = absurd (busy refl)
-calls-fewer old new (Renewing r) busy less = omega (arith, less)
+calls-fewer : {D : Type 0} (old new : StoreValue D) (under_way : UnderWay) → under_way ≢ Nothing
+    → left_of new.journal.under_way + 1 ≤ left_of old.journal.under_way
+    → calls_with new under_way + 1 ≤ calls_with old under_way
+calls-fewer old new Nothing busy less = absurd (busy refl)
+calls-fewer old new (Compacting r) busy less = omega (arith, less)
 calls-fewer old new (Appending r) busy less = less
 
 -- ---- a device call of the journal
@@ -135,8 +135,8 @@ module _ {D : Type 0} (disk_of : D → Disk) (s : StoreValue D) (runs : is_stopp
     (at_work : ¬ (journal_value.IsIdle s.journal))
     (records : List Record)
     (lent : (content next : Content)
-    → HoldsWith (disk_in disk_of s) s.journal.place s.journal.hand (snapshot (standing_in s)) content next
-    → HoldsWith (disk_in disk_of s) s.journal.place s.journal.hand records content next) where
+    → HoldsWith (disk_in disk_of s) s.journal.place s.journal.under_way (snapshot (standing_in s)) content next
+    → HoldsWith (disk_in disk_of s) s.journal.place s.journal.under_way records content next) where
   runs_on : is_stopped s ≡ true → ⊥
   runs_on is = let no : true ≡ false = sym is ∙ runs in cc
 
@@ -153,7 +153,7 @@ module _ {D : Type 0} (disk_of : D → Disk) (s : StoreValue D) (runs : is_stopp
 
   -- it failed
   pub turn-failed : (at : JournalFault) (j : JournalValue D) → journal.Steps disk_of s.journal records (refuses at) j
-      → Steps disk_of s (refuses at) (record { journal = j; held = s.held; hand = Empty })
+      → Steps disk_of s (refuses at) (record { journal = j; held = s.held; under_way = Nothing })
   turn-failed at j steps = record {
     stopped = (λ same. steps.stopped.0 same, λ is. steps.stopped.1 is);
     idle = (λ same. absurd cc, λ both. absurd (busy both.1));
@@ -181,9 +181,9 @@ module _ {D : Type 0} (disk_of : D → Disk) (s : StoreValue D) (runs : is_stopp
   }
 
   -- the same work goes on
-  module _ (back : (j : JournalValue D) → IsSameTask s.journal.hand j.hand → (content next : Content)
-      → HoldsWith (disk_of j.disk) j.place j.hand records content next
-      → HoldsWith (disk_of j.disk) j.place j.hand (snapshot (standing_in s)) content next) where
+  module _ (back : (j : JournalValue D) → IsSameTask s.journal.under_way j.under_way → (content next : Content)
+      → HoldsWith (disk_of j.disk) j.place j.under_way records content next
+      → HoldsWith (disk_of j.disk) j.place j.under_way (snapshot (standing_in s)) content next) where
     turn-going : (j : JournalValue D) → journal.Steps disk_of s.journal records (answers Going) j
         → Steps disk_of s (answers Going) (record s { journal = j })
     turn-going j steps =
@@ -201,13 +201,13 @@ module _ {D : Type 0} (disk_of : D → Disk) (s : StoreValue D) (runs : is_stopp
           standing = λ not. refl;
           going = λ same. (busy, refl);
           finished = λ same. absurd (let no : Going ≡ Finished = cc in cc);
-          slots = slots-kept s (record s { journal = j }) s.hand place refl;
-          generation = generation-kept s (record s { journal = j }) s.hand place;
+          slots = slots-kept s (record s { journal = j }) s.under_way place refl;
+          generation = generation-kept s (record s { journal = j }) s.under_way place;
           work = record { works = steps.work.works; fails = steps.work.fails };
           device = λ was still. steps.device runs at_work;
           one = steps.one;
           call = λ was. steps.call at_work;
-          left = λ was. calls-fewer s (record s { journal = j }) s.hand busy (steps.left at_work);
+          left = λ was. calls-fewer s (record s { journal = j }) s.under_way busy (steps.left at_work);
           last = λ same. absurd (let no : Going ≡ Finished = cc in cc);
           any_moment = λ honest stored after follows. moments (answers Going) j steps honest stored after follows;
           stored = λ honest stored. record {
@@ -235,47 +235,47 @@ module _ {D : Type 0} (disk_of : D → Disk) (s : StoreValue D) (runs : is_stopp
 
 -- of an append
 module _ {D : Type 0} (disk_of : D → Disk) (s : StoreValue D) (runs : is_stopped s ≡ false) (r : Record)
-    (hand_is : s.hand ≡ Appending r)
-    (appends : IsAppendHand s.journal.hand) where
+    (under_way_is : s.under_way ≡ Appending r)
+    (appends : IsAppendUnderWay s.journal.under_way) where
   -- the journal is at work
   append-busy : ¬ IsIdle s
-  append-busy idle = let no : Appending r ≡ Empty = sym hand_is ∙ idle in cc
+  append-busy idle = let no : Appending r ≡ Nothing = sym under_way_is ∙ idle in cc
 
   pub append-works : ¬ (journal_value.IsIdle s.journal)
-  append-works idle = subst (λ (h : journal_hand.Hand). IsAppendHand h) idle appends
+  append-works idle = subst (λ (h : journal_under_way.UnderWay). IsAppendUnderWay h) idle appends
 
   append-lent : (records : List Record) (content next : Content)
-      → HoldsWith (disk_in disk_of s) s.journal.place s.journal.hand (snapshot (standing_in s)) content next
-      → HoldsWith (disk_in disk_of s) s.journal.place s.journal.hand records content next
+      → HoldsWith (disk_in disk_of s) s.journal.place s.journal.under_way (snapshot (standing_in s)) content next
+      → HoldsWith (disk_in disk_of s) s.journal.place s.journal.under_way records content next
   append-lent records content next holding =
-      append-with (disk_in disk_of s) s.journal.place s.journal.hand records content next appends holding.holds
+      append-with (disk_in disk_of s) s.journal.place s.journal.under_way records content next appends holding.holds
 
-  append-alone : (hand : journal_hand.Hand) → IsAppendHand hand → IsNoCompact hand
-  append-alone journal_work.Empty is = absurd is
+  append-alone : (under_way : journal_under_way.UnderWay) → IsAppendUnderWay under_way → IsNoCompact under_way
+  append-alone journal_work.Nothing is = absurd is
   append-alone (journal_work.Append work) is = tt
   append-alone (journal_work.Compact work) is = absurd is
 
   -- one slot more is used
-  append-place : (place : Place) (hand : journal_hand.Hand) → IsAppendHand hand
-      → place_then place hand ≡ record place { free = place.free + 1 }
-  append-place place journal_work.Empty is = absurd is
+  append-place : (place : Place) (under_way : journal_under_way.UnderWay) → IsAppendUnderWay under_way
+      → place_then place under_way ≡ record place { free = place.free + 1 }
+  append-place place journal_work.Nothing is = absurd is
   append-place place (journal_work.Append work) is = refl
   append-place place (journal_work.Compact work) is = absurd is
 
   append-stored : (records : List Record) (j : JournalValue D) (held : StandingValue)
       → standing_after_record (standing_in s) r ≡ Some (standing_of held)
       → journal.Steps disk_of s.journal records (answers Finished) j → IsHonest (disk_of j.disk) → IsStored disk_of s
-      → IsStored disk_of (record { journal = j; held = held; hand = Empty })
+      → IsStored disk_of (record { journal = j; held = held; under_way = Nothing })
   append-stored records j held follows steps honest stored =
       let means : meaning_of this_edition stored.next ≡ Some (standing_of held) = stored.becomes
-      ∙ ap (standing_next (standing_in s)) hand_is ∙ follows in
+      ∙ ap (standing_next (standing_in s)) under_way_is ∙ follows in
       record {
         content = stored.next;
         next = stored.next;
         holding = record {
           holds = steps.done refl honest stored.content stored.next
               (append-lent records stored.content stored.next stored.holding);
-          made = subst (λ (h : journal_hand.Hand). IsMadeOf h (snapshot (standing_of held)) stored.next stored.next)
+          made = subst (λ (h : journal_under_way.UnderWay). IsMadeOf h (snapshot (standing_of held)) stored.next stored.next)
               (sym (steps.finished refl)) tt;
         };
         stands = means;
@@ -288,9 +288,9 @@ module _ {D : Type 0} (disk_of : D → Disk) (s : StoreValue D) (runs : is_stopp
   pub append-finished : (records : List Record) (j : JournalValue D) (held : StandingValue)
       → standing_after_record (standing_in s) r ≡ Some (standing_of held)
       → journal.Steps disk_of s.journal records (answers Finished) j
-      → Steps disk_of s (answers Finished) (record { journal = j; held = held; hand = Empty })
+      → Steps disk_of s (answers Finished) (record { journal = j; held = held; under_way = Nothing })
   append-finished records j held follows steps =
-      let place = steps.moved refl ∙ append-place s.journal.place s.journal.hand appends in
+      let place = steps.moved refl ∙ append-place s.journal.place s.journal.under_way appends in
       record {
         stopped = (λ same. absurd cc, λ is. absurd (let no : true ≡ false = sym is ∙ runs in cc));
         idle = (λ same. absurd (let no : Finished ≡ Idle = cc in cc), λ both. absurd (append-busy both.1));
@@ -303,64 +303,64 @@ module _ {D : Type 0} (disk_of : D → Disk) (s : StoreValue D) (runs : is_stopp
         running = steps.running;
         standing = λ not. absurd (not refl);
         going = λ same. absurd (let no : Finished ≡ Going = cc in cc);
-        finished = λ same. (refl, ap (standing_with (standing_in s)) hand_is ∙ follows);
-        slots = ap (λ (p : Place). p.free) place ∙ sym (ap (slots_with s) hand_is);
-        generation = ap (λ (p : Place). p.head.generation) place ∙ sym (ap (generation_with s) hand_is);
+        finished = λ same. (refl, ap (standing_with (standing_in s)) under_way_is ∙ follows);
+        slots = ap (λ (p : Place). p.free) place ∙ sym (ap (slots_with s) under_way_is);
+        generation = ap (λ (p : Place). p.head.generation) place ∙ sym (ap (generation_with s) under_way_is);
         work = record { works = steps.work.works; fails = steps.work.fails };
         device = λ was still. steps.device runs append-works;
         one = steps.one;
         call = λ was. steps.call append-works;
-        left = λ was. (let less = steps.left append-works in let calls : calls_left s ≡ left_of s.journal.hand =
-            ap (calls_with s) hand_is in omega (arith, less, calls));
-        last = λ same. (let exact = steps.exact append-works (append-alone s.journal.hand appends) in
+        left = λ was. (let less = steps.left append-works in let calls : calls_left s ≡ left_of s.journal.under_way =
+            ap (calls_with s) under_way_is in omega (arith, less, calls));
+        last = λ same. (let exact = steps.exact append-works (append-alone s.journal.under_way appends) in
             let none = ap left_of (steps.finished refl) in
-            let calls : calls_left s ≡ left_of s.journal.hand = ap (calls_with s) hand_is in
+            let calls : calls_left s ≡ left_of s.journal.under_way = ap (calls_with s) under_way_is in
             omega (arith, exact, none, calls));
         any_moment = λ honest stored after follows.
             moments disk_of s runs append-busy append-works records (append-lent records) (answers Finished) j steps
             honest stored after follows;
         stored = λ honest stored. append-stored records j held follows steps honest stored;
         kept = λ same honest stored image left.
-            stored-image disk_of (record { journal = j; held = held; hand = Empty }) refl
+            stored-image disk_of (record { journal = j; held = held; under_way = Nothing }) refl
             (append-stored records j held follows steps honest stored) image left;
       }
 
 -- of a compaction, after which the record is under way
 module _ {D : Type 0} (disk_of : D → Disk) (s : StoreValue D) (runs : is_stopped s ≡ false) (r : Record)
-    (hand_is : s.hand ≡ Renewing r)
-    (renews : RenewsWith s.journal.place s.journal.hand (snapshot (standing_in s))) where
-  renewal-busy : ¬ IsIdle s
-  renewal-busy idle = let no : Renewing r ≡ Empty = sym hand_is ∙ idle in cc
+    (under_way_is : s.under_way ≡ Compacting r)
+    (compacts : CompactsWith s.journal.place s.journal.under_way (snapshot (standing_in s))) where
+  compaction-busy : ¬ IsIdle s
+  compaction-busy idle = let no : Compacting r ≡ Nothing = sym under_way_is ∙ idle in cc
 
-  pub renewal-works : ¬ (journal_value.IsIdle s.journal)
-  renewal-works idle =
-      subst (λ (h : journal_hand.Hand). RenewsWith s.journal.place h (snapshot (standing_in s))) idle renews
+  pub compaction-works : ¬ (journal_value.IsIdle s.journal)
+  compaction-works idle =
+      subst (λ (h : journal_under_way.UnderWay). CompactsWith s.journal.place h (snapshot (standing_in s))) idle compacts
 
-  renewal-lent : (content next : Content)
-      → HoldsWith (disk_in disk_of s) s.journal.place s.journal.hand (snapshot (standing_in s)) content next
-      → HoldsWith (disk_in disk_of s) s.journal.place s.journal.hand (snapshot (standing_in s)) content next
-  renewal-lent content next holding = holding
+  compaction-lent : (content next : Content)
+      → HoldsWith (disk_in disk_of s) s.journal.place s.journal.under_way (snapshot (standing_in s)) content next
+      → HoldsWith (disk_in disk_of s) s.journal.place s.journal.under_way (snapshot (standing_in s)) content next
+  compaction-lent content next holding = holding
 
   -- as many slots as the snapshot has records are used, in the next generation
-  renewal-slots : (place : Place) (hand : journal_hand.Hand) (records : List Record) → RenewsWith place hand records
-      → (place_then place hand).free ≡ length records
-  renewal-slots place journal_work.Empty records is = absurd is
-  renewal-slots place (journal_work.Append work) records is = absurd is
-  renewal-slots place (journal_work.Compact work) records is = ap (λ h. h.count) (sym is)
+  compaction-slots : (place : Place) (under_way : journal_under_way.UnderWay) (records : List Record) → CompactsWith place under_way records
+      → (place_then place under_way).free ≡ length records
+  compaction-slots place journal_work.Nothing records is = absurd is
+  compaction-slots place (journal_work.Append work) records is = absurd is
+  compaction-slots place (journal_work.Compact work) records is = ap (λ h. h.count) (sym is)
 
-  renewal-generation : (place : Place) (hand : journal_hand.Hand) (records : List Record)
-      → RenewsWith place hand records
-      → (place_then place hand).head.generation ≡ place.head.generation + 1
-  renewal-generation place journal_work.Empty records is = absurd is
-  renewal-generation place (journal_work.Append work) records is = absurd is
-  renewal-generation place (journal_work.Compact work) records is = ap (λ h. h.generation) (sym is)
+  compaction-generation : (place : Place) (under_way : journal_under_way.UnderWay) (records : List Record)
+      → CompactsWith place under_way records
+      → (place_then place under_way).head.generation ≡ place.head.generation + 1
+  compaction-generation place journal_work.Nothing records is = absurd is
+  compaction-generation place (journal_work.Append work) records is = absurd is
+  compaction-generation place (journal_work.Compact work) records is = ap (λ h. h.generation) (sym is)
 
   module _ (mid : JournalValue D)
       (steps : journal.Steps disk_of s.journal (snapshot (standing_in s)) (answers Finished) mid) where
     -- the journal goes on with a free slot
-    pub renewal-room : mid.place.free ≡ snapshot_length s
-    renewal-room = ap (λ (p : Place). p.free) (steps.moved refl)
-        ∙ renewal-slots s.journal.place s.journal.hand (snapshot (standing_in s)) renews
+    pub compaction-room : mid.place.free ≡ snapshot_length s
+    compaction-room = ap (λ (p : Place). p.free) (steps.moved refl)
+        ∙ compaction-slots s.journal.place s.journal.under_way (snapshot (standing_in s)) compacts
 
     module _ (j : JournalValue D) (starts : journal.Starts disk_of mid (Appends r) (Ok tt) j) where
       same-disk : disk_of mid.disk ≡ disk_of j.disk
@@ -369,19 +369,19 @@ module _ {D : Type 0} (disk_of : D → Disk) (s : StoreValue D) (runs : is_stopp
       at_rest : (d : Disk) → disk_of mid.disk ≡ d → IsHonest d → IsHonest (disk_of mid.disk)
       at_rest d is honest = subst (λ (x : Disk). IsHonest x) (sym is) honest
 
-      renewed-stored : IsHonest (disk_of j.disk) → IsStored disk_of s
-          → IsStored disk_of (record { journal = j; held = s.held; hand = Appending r })
-      renewed-stored honest stored =
+      compacted-stored : IsHonest (disk_of j.disk) → IsStored disk_of s
+          → IsStored disk_of (record { journal = j; held = s.held; under_way = Appending r })
+      compacted-stored honest stored =
           let before = at_rest (disk_of j.disk) same-disk honest in
           let holds = steps.done refl before stored.content stored.next stored.holding in
           let means : meaning_of this_edition stored.next ≡ Some (standing_in s) = stored.becomes
-          ∙ ap (standing_next (standing_in s)) hand_is in
+          ∙ ap (standing_next (standing_in s)) under_way_is in
           record {
             content = stored.next;
             next = content_with_record stored.next r;
-            holding = append-with (disk_of j.disk) j.place j.hand (snapshot (standing_in s)) stored.next
+            holding = append-with (disk_of j.disk) j.place j.under_way (snapshot (standing_in s)) stored.next
                 (content_with_record stored.next r)
-                (task-appends mid r j.hand starts.hand) (starts.holds stored.next holds);
+                (task-appends mid r j.under_way starts.under_way) (starts.holds stored.next holds);
             stands = means;
             becomes = standing-with this_edition stored.next r (standing_in s)
                 (held-within disk_of mid stored.next holds) stored.form_next means;
@@ -390,10 +390,10 @@ module _ {D : Type 0} (disk_of : D → Disk) (s : StoreValue D) (runs : is_stopp
             form_next = stored.form_next;
           }
 
-      pub renewal-finished : Steps disk_of s (answers Going) (record { journal = j; held = s.held; hand = Appending r })
-      renewal-finished = record {
+      pub compaction-finished : Steps disk_of s (answers Going) (record { journal = j; held = s.held; under_way = Appending r })
+      compaction-finished = record {
         stopped = (λ same. absurd cc, λ is. absurd (let no : true ≡ false = sym is ∙ runs in cc));
-        idle = (λ same. absurd (let no : Going ≡ Idle = cc in cc), λ both. absurd (renewal-busy both.1));
+        idle = (λ same. absurd (let no : Going ≡ Idle = cc in cc), λ both. absurd (compaction-busy both.1));
         names = tt;
         same = λ which. elim which [
           | inl stopped ↦ absurd cc
@@ -402,113 +402,113 @@ module _ {D : Type 0} (disk_of : D → Disk) (s : StoreValue D) (runs : is_stopp
         halted = λ same. absurd cc;
         running = starts.running;
         standing = λ not. refl;
-        going = λ same. (λ empty. absurd cc, sym (ap (standing_with (standing_in s)) hand_is));
+        going = λ same. (λ empty. absurd cc, sym (ap (standing_with (standing_in s)) under_way_is));
         finished = λ same. absurd (let no : Going ≡ Finished = cc in cc);
-        slots = ap (λ (p : Place). p.free + 1) starts.place ∙ ap (λ (n : ℕ). n + 1) renewal-room
-            ∙ sym (ap (slots_with s) hand_is);
+        slots = ap (λ (p : Place). p.free + 1) starts.place ∙ ap (λ (n : ℕ). n + 1) compaction-room
+            ∙ sym (ap (slots_with s) under_way_is);
         generation = ap (λ (p : Place). p.head.generation) (starts.place ∙ steps.moved refl)
-            ∙ renewal-generation s.journal.place s.journal.hand (snapshot (standing_in s)) renews
-            ∙ sym (ap (generation_with s) hand_is);
+            ∙ compaction-generation s.journal.place s.journal.under_way (snapshot (standing_in s)) compacts
+            ∙ sym (ap (generation_with s) under_way_is);
         work = subst (λ (d : Disk). IsWorkOf (disk_in disk_of s) d (answers Going)) same-disk
             (record { works = steps.work.works; fails = steps.work.fails });
         device = λ was still. subst (λ (d : Disk). IsDeviceCall (disk_in disk_of s) d (answers Going)) same-disk
             (called (disk_in disk_of s) (disk_of mid.disk) (answers Finished) (answers Going) refl
-            (steps.device runs renewal-works));
+            (steps.device runs compaction-works));
         one = subst (λ (d : Disk). d.clock ≤ (disk_in disk_of s).clock + 1) same-disk steps.one;
         call =
-            λ was. subst (λ (d : Disk). d.clock ≡ (disk_in disk_of s).clock + 1) same-disk (steps.call renewal-works);
+            λ was. subst (λ (d : Disk). d.clock ≡ (disk_in disk_of s).clock + 1) same-disk (steps.call compaction-works);
         left = λ was.
-            (let less = steps.left renewal-works in let four = starts.left in
-            let calls : calls_left s ≡ left_of s.journal.hand + 4 = ap (calls_with s) hand_is in
+            (let less = steps.left compaction-works in let four = starts.left in
+            let calls : calls_left s ≡ left_of s.journal.under_way + 4 = ap (calls_with s) under_way_is in
             omega (arith, less, four, calls));
         last = λ same. absurd (let no : Going ≡ Finished = cc in cc);
         any_moment = λ honest stored after follows.
             subst (λ (d : Disk). Leaves (disk_in disk_of s) d (StandsForEither (standing_in s) after)) same-disk
-            (moments disk_of s runs renewal-busy renewal-works (snapshot (standing_in s)) renewal-lent
+            (moments disk_of s runs compaction-busy compaction-works (snapshot (standing_in s)) compaction-lent
             (answers Finished) mid steps
             (at_rest (disk_of j.disk) same-disk honest) stored after follows);
-        stored = λ honest stored. renewed-stored honest stored;
+        stored = λ honest stored. compacted-stored honest stored;
         kept = λ same. absurd (let no : Going ≡ Finished = cc in cc);
       }
 
 -- ---- by the invariant of a store
 
-appending-is : (hand : Change) → IsAppending hand → (r : Record) × (hand ≡ Appending r)
-appending-is Empty is = absurd is
-appending-is (Renewing r) is = absurd is
+appending-is : (under_way : UnderWay) → IsAppending under_way → (r : Record) × (under_way ≡ Appending r)
+appending-is Nothing is = absurd is
+appending-is (Compacting r) is = absurd is
 appending-is (Appending r) is = (r, refl)
 
-renewing-is : (hand : Change) → IsRenewing hand → (r : Record) × (hand ≡ Renewing r)
-renewing-is Empty is = absurd is
-renewing-is (Renewing r) is = (r, refl)
-renewing-is (Appending r) is = absurd is
+compacting-is : (under_way : UnderWay) → IsCompacting under_way → (r : Record) × (under_way ≡ Compacting r)
+compacting-is Nothing is = absurd is
+compacting-is (Compacting r) is = (r, refl)
+compacting-is (Appending r) is = absurd is
 
-module _ {D : Type 0} (disk_of : D → Disk) (s : StoreValue D) (fits : FitsChange s.journal (standing_in s) s.hand) where
+module _ {D : Type 0} (disk_of : D → Disk) (s : StoreValue D) (fits : FitsUnderWay s.journal (standing_in s) s.under_way) where
   -- what the invariant says of a record that is being appended, and of one that waits
-  pub fits-append : (r : Record) → s.hand ≡ Appending r → FitsChange s.journal (standing_in s) (Appending r)
-  fits-append r is = subst (λ (h : Change). FitsChange s.journal (standing_in s) h) is fits
+  pub fits-append : (r : Record) → s.under_way ≡ Appending r → FitsUnderWay s.journal (standing_in s) (Appending r)
+  fits-append r is = subst (λ (h : UnderWay). FitsUnderWay s.journal (standing_in s) h) is fits
 
-  pub fits-renewal : (r : Record) → s.hand ≡ Renewing r → FitsChange s.journal (standing_in s) (Renewing r)
-  fits-renewal r is = subst (λ (h : Change). FitsChange s.journal (standing_in s) h) is fits
+  pub fits-compaction : (r : Record) → s.under_way ≡ Compacting r → FitsUnderWay s.journal (standing_in s) (Compacting r)
+  fits-compaction r is = subst (λ (h : UnderWay). FitsUnderWay s.journal (standing_in s) h) is fits
 
-  module _ (is : IsAppending s.hand) where
-    the-append : (r : Record) × (s.hand ≡ Appending r)
-    the-append = appending-is s.hand is
+  module _ (is : IsAppending s.under_way) where
+    the-append : (r : Record) × (s.under_way ≡ Appending r)
+    the-append = appending-is s.under_way is
 
-    its-append : FitsChange s.journal (standing_in s) (Appending the-append.0)
+    its-append : FitsUnderWay s.journal (standing_in s) (Appending the-append.0)
     its-append = fits-append the-append.0 the-append.1
 
     pub append-failed : (at : JournalFault) (j : JournalValue D) → journal.Steps disk_of s.journal [] (refuses at) j
-        → Steps disk_of s (refuses at) (record { journal = j; held = s.held; hand = Empty })
+        → Steps disk_of s (refuses at) (record { journal = j; held = s.held; under_way = Nothing })
     append-failed at j steps =
         let r = the-append.0 in
-        let hand_is = the-append.1 in
-        turn-failed disk_of s its-append.0 (append-busy disk_of s its-append.0 r hand_is its-append.2)
-        (append-works disk_of s its-append.0 r hand_is its-append.2) []
-        (append-lent disk_of s its-append.0 r hand_is its-append.2 []) at j steps
+        let under_way_is = the-append.1 in
+        turn-failed disk_of s its-append.0 (append-busy disk_of s its-append.0 r under_way_is its-append.2)
+        (append-works disk_of s its-append.0 r under_way_is its-append.2) []
+        (append-lent disk_of s its-append.0 r under_way_is its-append.2 []) at j steps
 
     pub append-on : (step : JournalStep) (j : JournalValue D) → step ≢ Finished
         → journal.Steps disk_of s.journal [] (answers step) j
         → Steps disk_of s (answers Going) (record s { journal = j })
     append-on step j other steps =
         let r = the-append.0 in
-        let hand_is = the-append.1 in
-        turn-on disk_of s its-append.0 (append-busy disk_of s its-append.0 r hand_is its-append.2)
-        (append-works disk_of s its-append.0 r hand_is its-append.2) []
-        (append-lent disk_of s its-append.0 r hand_is its-append.2 [])
+        let under_way_is = the-append.1 in
+        turn-on disk_of s its-append.0 (append-busy disk_of s its-append.0 r under_way_is its-append.2)
+        (append-works disk_of s its-append.0 r under_way_is its-append.2) []
+        (append-lent disk_of s its-append.0 r under_way_is its-append.2 [])
         (λ j same content next holding.
-        append-with (disk_of j.disk) j.place j.hand (snapshot (standing_in s)) content next
-        (still-appends s.journal.hand j.hand same its-append.2) holding.holds)
+        append-with (disk_of j.disk) j.place j.under_way (snapshot (standing_in s)) content next
+        (still-appends s.journal.under_way j.under_way same its-append.2) holding.holds)
         step j other steps
 
-  module _ (is : IsRenewing s.hand) where
-    the-renewal : (r : Record) × (s.hand ≡ Renewing r)
-    the-renewal = renewing-is s.hand is
+  module _ (is : IsCompacting s.under_way) where
+    the-compaction : (r : Record) × (s.under_way ≡ Compacting r)
+    the-compaction = compacting-is s.under_way is
 
-    its-renewal : FitsChange s.journal (standing_in s) (Renewing the-renewal.0)
-    its-renewal = fits-renewal the-renewal.0 the-renewal.1
+    its-compaction : FitsUnderWay s.journal (standing_in s) (Compacting the-compaction.0)
+    its-compaction = fits-compaction the-compaction.0 the-compaction.1
 
     -- as its journal is lent the records of the snapshot
-    pub renews-now : RenewsWith s.journal.place s.journal.hand (snapshot (standing_in s))
-    renews-now = its-renewal.2
+    pub compacts-now : CompactsWith s.journal.place s.journal.under_way (snapshot (standing_in s))
+    compacts-now = its-compaction.2
 
-    pub renewal-failed : (at : JournalFault) (j : JournalValue D)
+    pub compaction-failed : (at : JournalFault) (j : JournalValue D)
         → journal.Steps disk_of s.journal (snapshot (standing_in s)) (refuses at) j
-        → Steps disk_of s (refuses at) (record { journal = j; held = s.held; hand = Empty })
-    renewal-failed at j steps =
-        let r = the-renewal.0 in
-        let hand_is = the-renewal.1 in
-        turn-failed disk_of s its-renewal.0 (renewal-busy disk_of s its-renewal.0 r hand_is its-renewal.2)
-        (renewal-works disk_of s its-renewal.0 r hand_is its-renewal.2)
-        (snapshot (standing_in s)) (renewal-lent disk_of s its-renewal.0 r hand_is its-renewal.2) at j steps
+        → Steps disk_of s (refuses at) (record { journal = j; held = s.held; under_way = Nothing })
+    compaction-failed at j steps =
+        let r = the-compaction.0 in
+        let under_way_is = the-compaction.1 in
+        turn-failed disk_of s its-compaction.0 (compaction-busy disk_of s its-compaction.0 r under_way_is its-compaction.2)
+        (compaction-works disk_of s its-compaction.0 r under_way_is its-compaction.2)
+        (snapshot (standing_in s)) (compaction-lent disk_of s its-compaction.0 r under_way_is its-compaction.2) at j steps
 
-    pub renewal-on : (step : JournalStep) (j : JournalValue D) → step ≢ Finished
+    pub compaction-on : (step : JournalStep) (j : JournalValue D) → step ≢ Finished
         → journal.Steps disk_of s.journal (snapshot (standing_in s)) (answers step) j
         → Steps disk_of s (answers Going) (record s { journal = j })
-    renewal-on step j other steps =
-        let r = the-renewal.0 in
-        let hand_is = the-renewal.1 in
-        turn-on disk_of s its-renewal.0 (renewal-busy disk_of s its-renewal.0 r hand_is its-renewal.2)
-        (renewal-works disk_of s its-renewal.0 r hand_is its-renewal.2)
-        (snapshot (standing_in s)) (renewal-lent disk_of s its-renewal.0 r hand_is its-renewal.2)
+    compaction-on step j other steps =
+        let r = the-compaction.0 in
+        let under_way_is = the-compaction.1 in
+        turn-on disk_of s its-compaction.0 (compaction-busy disk_of s its-compaction.0 r under_way_is its-compaction.2)
+        (compaction-works disk_of s its-compaction.0 r under_way_is its-compaction.2)
+        (snapshot (standing_in s)) (compaction-lent disk_of s its-compaction.0 r under_way_is its-compaction.2)
         (λ j same content next holding. holding) step j other steps

@@ -5,7 +5,7 @@ pub mod Replay
 pub mod Snapshot
 pub mod Table
 pub mod Walk
-pub mod Kept
+pub mod UnderWay
 pub mod Found
 pub mod Value
 pub mod Keeps

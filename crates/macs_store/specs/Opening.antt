@@ -113,11 +113,11 @@ IsStoreOpening disk_of disk (Err refused) = RefusesDisk disk_of disk refused.dis
 
 -- A store whose journal was recovered rewrites it with a snapshot of what is in memory, which represents the same
 -- standing; nothing else changes in memory.
-pub record BeginsAnew {D : Type 0} (disk_of : D → Disk) (old : StoreValue D) (result : Result (Unit {0}) JournalFault)
+pub record CompactsHeld {D : Type 0} (disk_of : D → Disk) (old : StoreValue D) (result : Result (Unit {0}) JournalFault)
     (new : StoreValue D) : Type 0 where
   pub compacts : Compacts disk_of old.journal (snapshot (standing_in old)) result new.journal
   pub held : new.held ≡ old.held
-  pub hand : new.hand ≡ old.hand
+  pub under_way : new.under_way ≡ old.under_way
   pub stands : snapshot_of this_edition (standing_in old).identity (snapshot (standing_in old)) ≡ Some (standing_in old)
 
 -- What becomes of a store that was recovered, depending on whether its records were replayed successfully, and on
@@ -125,5 +125,5 @@ pub record BeginsAnew {D : Type 0} (disk_of : D → Disk) (old : StoreValue D) (
 abbrev pub TakesUp : {D : Type 0} → (D → Disk) → (is_read is_old : Bool) → StoreValue D → Result (Unit {0}) JournalFault
     → StoreValue D → Type 0
 TakesUp disk_of false is_old old result new = (result ≡ Err variant.BadJournal) × (new ≡ old)
-TakesUp disk_of true true old result new = BeginsAnew disk_of old result new
+TakesUp disk_of true true old result new = CompactsHeld disk_of old result new
 TakesUp disk_of true false old result new = (result ≡ Ok tt) × (new ≡ old)

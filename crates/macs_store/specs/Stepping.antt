@@ -21,15 +21,15 @@ use Rattle.macs_store.specs.Standing.{Standing, accept}
 use Rattle.macs_store.specs.Value.{IsIdle, IsStored, StoreValue, calls_left, device_in, disk_in, generation}
 use Rattle.macs_store.specs.Value.{generation_then, is_stopped, slots_then, standing_in, standing_then, used_slots}
 use Rattle.macs_store.specs.declared.fault.CommitFault.{CommitFault}
-use Rattle.macs_store.specs.Kept.{Change}
-use Rattle.macs_store.specs.Kept.{Appending, Renewing}
+use Rattle.macs_store.specs.UnderWay.{UnderWay}
+use Rattle.macs_store.specs.UnderWay.{Appending, Compacting}
 use Rattle.macs_store.specs.declared.fault.CommitFault.TheVariants as commit
 
 -- ---- work is started
 
 -- A store that has started one change, which will turn the standing into `after`: the standing is unchanged, no device
 -- call was made, and at most this many will be.
-pub record HasInHand {D : Type 0} (disk_of : D → disk.Disk) (old : StoreValue D) (after : Standing)
+pub record HasUnderWay {D : Type 0} (disk_of : D → disk.Disk) (old : StoreValue D) (after : Standing)
     (new : StoreValue D) : Type 0 where
   pub running : is_stopped new ≡ false
   pub device : device_in new ≡ device_in old
@@ -49,7 +49,7 @@ pub record Starts {D : Type 0} (disk_of : D → disk.Disk) (old : StoreValue D) 
   pub spent : IsErrOf result journal.GenerationsSpent ↔ IsSpent old
   pub names : OnErr result (IsErrOf result journal.Stopped ⊎ IsErrOf result journal.GenerationsSpent)
   pub same : OnErr result (new ≡ old)
-  pub in_hand : OnOk result (HasInHand disk_of old after new)
+  pub under_way : OnOk result (HasUnderWay disk_of old after new)
 
 -- A command is started. Fails with Stopped, then with Refused and the first refusal that applies, then with
 -- GenerationsSpent; nothing changes then.
@@ -61,8 +61,8 @@ pub record StartsCommit {D : Type 0} (disk_of : D → disk.Disk) (old : StoreVal
   pub spent : IsErrOf result commit.GenerationsSpent ↔ (IsOk (accept (standing_in old) command) × IsSpent old)
   pub names : ¬ IsErrOf result commit.Disk
   pub same : OnErr result (new ≡ old)
-  pub in_hand : OnOk result
-      ((after : Standing) × (accept (standing_in old) command ≡ Ok after) × HasInHand disk_of old after new)
+  pub under_way : OnOk result
+      ((after : Standing) × (accept (standing_in old) command ≡ Ok after) × HasUnderWay disk_of old after new)
 
 -- Work on a record is started, as a reservation is.
 pub record StartsRecord {D : Type 0} (disk_of : D → disk.Disk) (old : StoreValue D) (r : Record)
@@ -71,18 +71,18 @@ pub record StartsRecord {D : Type 0} (disk_of : D → disk.Disk) (old : StoreVal
   pub spent : IsErrOf result journal.GenerationsSpent ↔ IsSpent old
   pub names : OnErr result (IsErrOf result journal.Stopped ⊎ IsErrOf result journal.GenerationsSpent)
   pub same : OnErr result (new ≡ old)
-  pub in_hand : OnOk result ((after : Standing) → standing_after_record (standing_in old) r ≡ Some after
-      → HasInHand disk_of old after new)
+  pub under_way : OnOk result ((after : Standing) → standing_after_record (standing_in old) r ≡ Some after
+      → HasUnderWay disk_of old after new)
 
 -- ---- one device call
 
 -- the journal is being rewritten
-abbrev pub IsRenewing : Change → Type 0
-IsRenewing (Renewing r) = Unit {0}
-IsRenewing other = ⊥
+abbrev pub IsCompacting : UnderWay → Type 0
+IsCompacting (Compacting r) = Unit {0}
+IsCompacting other = ⊥
 
 -- a record is being appended
-abbrev pub IsAppending : Change → Type 0
+abbrev pub IsAppending : UnderWay → Type 0
 IsAppending (Appending r) = Unit {0}
 IsAppending other = ⊥
 

@@ -10,7 +10,7 @@ ghost use Rattle.macs_config.specs.Snapshot.{config_of_parts};
 ghost use Rattle.macs_config.specs.Value.{config_of};
 ghost use Rattle.macs_config.specs.declared.part.Part.{Part};
 ghost use Rattle.macs_store.specs.Commands.{command_of};
-ghost use Rattle.macs_store.specs.Kept.{record_kept};
+ghost use Rattle.macs_store.specs.UnderWay.{record_kept};
 ghost use Rattle.macs_store.specs.Replay.{standing_after_command, standing_after_record};
 ghost use Rattle.macs_store.specs.Replay.{standing_after_records, snapshot_parts, all_belong};
 ghost use Rattle.macs_store.specs.Replay.{is_long_kind, reading_of, reads, replay_of, is_raise};

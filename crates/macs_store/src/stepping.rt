@@ -4,16 +4,16 @@ ghost use Rattle.std.specs.Prelude.{◌≡◌, ◌<◌, ◌≤◌, ◌^◌, if�
 ghost use Rattle.std.specs.Prelude.{Ok, Err, true, false};
 ghost use Rattle.macs_config.specs.Numbers.{block_beyond};
 ghost use Rattle.macs_journal.specs.Stepping as journal_steps;
-ghost use Rattle.macs_journal.specs.Stepping.{Renews, RenewsWith};
+ghost use Rattle.macs_journal.specs.Stepping.{Compaction, CompactsWith};
 ghost use Rattle.macs_journal.specs.Value as journal_value;
 ghost use Rattle.macs_journal.specs.declared.fault.JournalFault.TheVariants.{Stopped};
 ghost use Rattle.macs_journal.specs.declared.work.JournalStep.TheVariants.{Idle};
-ghost use Rattle.macs_store.specs.Kept.{record_kept};
+ghost use Rattle.macs_store.specs.UnderWay.{record_kept};
 ghost use Rattle.macs_store.specs.Replay.{standing_after_record};
 ghost use Rattle.macs_store.specs.Snapshot.{snapshot};
 ghost use Rattle.macs_store.specs.Standing.{accept, standing_with_rx_raised};
 ghost use Rattle.macs_store.specs.Standing.{standing_with_tx_raised};
-ghost use Rattle.macs_store.specs.Stepping.{Finishes, IsAppending, IsRenewing};
+ghost use Rattle.macs_store.specs.Stepping.{Finishes, IsAppending, IsCompacting};
 ghost use Rattle.macs_store.specs.Stepping.{Starts, StartsCommit, StartsRecord, Steps};
 ghost use Rattle.macs_store.specs.Table.{standing_of};
 ghost use Rattle.macs_store.specs.Value.{IsIdle, calls_left, is_stopped, standing_in};
@@ -104,7 +104,7 @@ impl<D: SectorDisk> Store<D> {
     {
         if self.journal.is_full() {
             self.standing.facts();
-            start_renewal(&mut self.journal, &self.standing)?;
+            start_compaction(&mut self.journal, &self.standing)?;
             self.under_way = UnderWay::Compacting(kept);
         } else {
             self.journal.start_append(&kept.record())?;
@@ -123,7 +123,7 @@ impl<D: SectorDisk> Store<D> {
     {
         match &self.under_way {
             UnderWay::Nothing => self.rest(),
-            UnderWay::Compacting(_) => self.step_renewal(),
+            UnderWay::Compacting(_) => self.step_compaction(),
             UnderWay::Appending(_) => self.step_append(),
         }
     }
@@ -167,15 +167,18 @@ impl<D: SectorDisk> Store<D> {
 
     /// The next device call of a journal that is being rewritten. After the last one the record is
     /// under way.
-    fn step_renewal(&mut self) -> Result<JournalStep, JournalFault>
-        requires renewing { IsRenewing self.old.hand }
+    fn step_compaction(&mut self) -> Result<JournalStep, JournalFault>
+        requires compacting { IsCompacting self.old.under_way }
         ensures { Steps D.disk self.old result self.new }
     {
         self.standing.facts();
         match step_with_snapshot(&mut self.journal, &self.standing) {
             Ok(step) => match step {
                 JournalStep::Finished => {
-                    if let UnderWay::Compacting(kept) = replace(&mut self.under_way, UnderWay::Nothing) {
+                    if let UnderWay::Compacting(kept) = replace(
+                        &mut self.under_way,
+                        UnderWay::Nothing,
+                    ) {
                         self.journal.start_append(&kept.record()).unwrap();
                         self.under_way = UnderWay::Appending(kept);
                     }
@@ -194,13 +197,16 @@ impl<D: SectorDisk> Store<D> {
     /// a command with the verdict of its check, which still holds since the standing has not
     /// changed.
     fn step_append(&mut self) -> Result<JournalStep, JournalFault>
-        requires appending { IsAppending self.old.hand }
+        requires appending { IsAppending self.old.under_way }
         ensures { Steps D.disk self.old result self.new }
     {
         match self.journal.step(&[]) {
             Ok(step) => match step {
                 JournalStep::Finished => {
-                    if let UnderWay::Appending(kept) = replace(&mut self.under_way, UnderWay::Nothing) {
+                    if let UnderWay::Appending(kept) = replace(
+                        &mut self.under_way,
+                        UnderWay::Nothing,
+                    ) {
                         self.standing.keep(&kept);
                     }
                     Ok(JournalStep::Finished)
@@ -216,12 +222,12 @@ impl<D: SectorDisk> Store<D> {
 }
 
 /// Starts a compaction, with a snapshot of the standing.
-fn start_renewal<D: SectorDisk>(
+fn start_compaction<D: SectorDisk>(
     journal: &mut Journal<D>,
     standing: &Standing,
 ) -> Result<(), JournalFault>
     requires idle { journal_value.IsIdle journal.old }
-    ensures { journal_steps.Starts D.disk journal.old (Renews (snapshot (standing_of standing.now)))
+    ensures { journal_steps.Starts D.disk journal.old (Compaction (snapshot (standing_of standing.now)))
         result journal.new }
 {
     standing.facts();
@@ -234,7 +240,7 @@ fn step_with_snapshot<D: SectorDisk>(
     journal: &mut Journal<D>,
     standing: &Standing,
 ) -> Result<JournalStep, JournalFault>
-    requires renews { RenewsWith journal.old.place journal.old.hand
+    requires compacts { CompactsWith journal.old.place journal.old.under_way
         (snapshot (standing_of standing.now)) }
     ensures { journal_steps.Steps D.disk journal.old (snapshot (standing_of standing.now)) result
         journal.new }

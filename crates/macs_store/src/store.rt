@@ -6,8 +6,8 @@ ghost use Rattle.macs_config.specs.Apply.{Named};
 ghost use Rattle.macs_config.specs.Value.{config_of};
 ghost use Rattle.macs_store.specs.Keeps.{Commits, Keeps};
 ghost use Rattle.macs_store.specs.Table.{standing_of};
-ghost use Rattle.macs_store.specs.Kept.{change_of};
-ghost use Rattle.macs_store.specs.Value.{FitsChange, IsIdle, StoreValue, device_in};
+ghost use Rattle.macs_store.specs.UnderWay.{under_way_of};
+ghost use Rattle.macs_store.specs.Value.{FitsUnderWay, IsIdle, StoreValue, device_in};
 ghost use Rattle.macs_store.specs.Value.{is_stopped, standing_in};
 ghost use Rattle.macs_config.specs.Numbers.{block_beyond};
 ghost use Rattle.macs_store.specs.Standing.{IsStanding, accept, standing_with_rx_raised};
@@ -39,10 +39,10 @@ impl<D: SectorDisk> Model for Store<D> {
     ghost Value = { StoreValue D };
 
     ghost view = { λ s.
-        record { journal = s.journal; held = s.standing; hand = change_of s.under_way } };
+        record { journal = s.journal; held = s.standing; under_way = under_way_of s.under_way } };
 
     ghost invariant = { λ s.
-        FitsChange s.journal (standing_of s.standing) (change_of s.under_way) };
+        FitsUnderWay s.journal (standing_of s.standing) (under_way_of s.under_way) };
 }
 
 impl<D: SectorDisk> Store<D> {

@@ -1,7 +1,7 @@
 //! What a store has under way.
 
 ghost use Rattle.std.specs.Prelude.{◌≡◌};
-ghost use Rattle.macs_store.specs.Kept.{record_kept};
+ghost use Rattle.macs_store.specs.UnderWay.{record_kept};
 
 use macs_config::Checked;
 use macs_fields::{An, Sci};
@@ -12,10 +12,9 @@ use macs_record::{Ceiling, Record};
 pub enum UnderWay {
     /// Nothing.
     Nothing,
-    /// The journal is being rewritten with a snapshot of what is in memory, and takes the record of
-    /// this then.
+    /// The journal is being compacted; the record of this is appended next.
     Compacting(Kept),
-    /// The journal takes the record of this.
+    /// The record of this is being appended.
     Appending(Kept),
 }
 

@@ -139,7 +139,7 @@ told 1 = ticket 1
 told 2 = ticket 2
 told 3 = 1 failed
 told 4 = 2 failed
-in-hand = yes
+under-way = yes
 
 # A command that is refused makes no device call: it is done in the turn for which it was wanted.
 story a command is refused

@@ -150,7 +150,7 @@ clients-counts = listened 3 slept 1 said 3
 said 1 = 3 end 0
 said 2 = 1 end 4
 said 3 = 2 end 4
-in-hand = yes
+under-way = yes
 
 # The same where the process is to end, which is looked at before a line is taken.
 story an end from outside

@@ -158,7 +158,7 @@ relay 0 = sent 0 delivered 0 dropped 0 faults 0
 sent-numbers common = $numbers
 
 # Wires of which calls fail: a receive of the wire that the frames come from, a receive of the
-# other, a send of the other. A fault is counted and the relay goes on; the frame in hand is lost
+# other, a send of the other. A fault is counted and the relay goes on; the frame in its room is lost
 # and its packet number stays used. Behind them stand how many frames pass, and how many faults
 # there are.
 story a call fails while frames are protected

@@ -9,7 +9,7 @@ use new
 identity = 0200000000010001 4 4
 settings = Strict on 0 Explicit none 0
 stopped = no
-in-hand = no
+under-way = no
 
 # An install whose gate was written and not made durable.
 setup torn install

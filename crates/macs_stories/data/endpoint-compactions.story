@@ -34,7 +34,7 @@ fail 515+$calls on
 open
 window = 255
 set-replay on 256 = Disk
-has-in-hand set-replay on 256 = yes
+has-under-way set-replay on 256 = yes
 window = 255
 stopped = yes
 close
@@ -43,7 +43,7 @@ fail never
 setup found
 open
 window = $window
-in-hand = no
+under-way = no
 stopped = no
 
 # Nothing is written yet.
@@ -61,7 +61,7 @@ fail 515+$ on
 open
 window = 255
 set-replay on 256 = Disk
-has-in-hand set-replay on 256 = yes
+has-under-way set-replay on 256 = yes
 window = 255
 stopped = yes
 close
@@ -211,7 +211,7 @@ tx-use 1 = refused SlotEmpty
 protect 62 = NoNumber
 refill = GenerationsSpent
 stopped = no
-in-hand = no
+under-way = no
 window = 253
 next 0 = 5
 power-loss $loss
@@ -234,7 +234,7 @@ step = GenerationsSpent
 step = done 2 refused SlotEmpty
 each 1 2 step = GenerationsSpent
 protect 62 = NoNumber
-in-hand = no
+under-way = no
 stopped = no
 window = 253
 next 0 = 5

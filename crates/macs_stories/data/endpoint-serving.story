@@ -66,7 +66,7 @@ use some events
 serve $turns = Halted 8 8
 use first seven
 answered 8 = Disk
-has-in-hand tx-use 0 = yes
+has-under-way tx-use 0 = yes
 
 # What a stopped endpoint answers to one event of each kind, after each of which it halts.
 story a stopped endpoint halts

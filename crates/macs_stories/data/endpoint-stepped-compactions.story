@@ -66,7 +66,7 @@ each 1 $steps step = worked
 setup found
 open
 window = $window
-in-hand = no
+under-way = no
 stopped = no
 
 story a command is not found before its gate is open

@@ -1,5 +1,5 @@
 # Stops at each step, and power losses behind each: what is found is what stood before, or that and
-# the one thing in hand.
+# the one thing under way.
 
 setup new
 format 0200000000010001 4 4
@@ -34,14 +34,14 @@ fail 260+$calls on
 open
 submit set-replay on 3 = 1
 use stopped
-has-in-hand set-replay on 3 = yes
+has-under-way set-replay on 3 = yes
 window = 0
 power-loss $loss
 fail never
 open
 window = $window
 
-# A command that waits is not in hand.
+# A command that waits is not under way.
 story a reservation stopped at a step is found or not
 with calls=0..2 loss=last next=5
 with calls=3 loss=last next=9
@@ -51,7 +51,7 @@ fail 262+$calls on
 open
 submit set-replay on 3 = 1
 use stopped
-in-hand = no
+under-way = no
 next 0 = 5
 power-loss $loss
 fail never

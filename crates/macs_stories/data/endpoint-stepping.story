@@ -15,14 +15,14 @@ story a command is four steps
 use new
 step = idle
 submit set-replay on 3 = 1
-in-hand = no
+under-way = no
 step = worked
-has-in-hand set-replay on 3 = yes
+has-under-way set-replay on 3 = yes
 each 1 2 step = worked
 window = 0
 step = done 1 ok
 window = 3
-in-hand = no
+under-way = no
 step = idle
 
 # A call that is busy changes nothing.
@@ -42,7 +42,7 @@ rx-add b
 window = 3
 channels = 000000000000000b
 
-# Sixteen commands wait, the one in hand included, and no more. They are kept in their order.
+# Sixteen commands wait, the one under way included, and no more. They are kept in their order.
 story sixteen commands wait
 use new
 each 1 16 submit set-replay on $ = $
@@ -55,7 +55,7 @@ submit rx-add b = QueueFull
 each 2 17 step = worked; step = worked; step = worked; step = done $ ok; window = $
 step = idle
 
-# The command in hand is not found either: its gate was not written.
+# The command under way is not found either: its gate was not written.
 story what waits is forgotten at a power loss
 with loss=last
 with loss=durable
@@ -65,7 +65,7 @@ submit set-replay on 4 = 2
 each 1 2 step = worked
 power-loss $loss
 open
-in-hand = no
+under-way = no
 step = idle
 window = 0
 submit set-replay on 5 = 1
@@ -152,20 +152,20 @@ each 1 2 protect 62 = $
 submit set-replay on 3 = 1
 submit set-replay on 4 = 2
 step = worked
-in-hand = no
+under-way = no
 each 1 2 step = worked
 step = reserved
 each 3 6 protect 62 = $
 step = worked
-has-in-hand set-replay on 3 = yes
+has-under-way set-replay on 3 = yes
 each 1 2 step = worked
 step = done 1 ok
 step = worked
-in-hand = no
+under-way = no
 each 1 2 step = worked
 step = reserved
 step = worked
-has-in-hand set-replay on 4 = yes
+has-under-way set-replay on 4 = yes
 each 1 2 step = worked
 step = done 2 ok
 step = idle
@@ -182,14 +182,14 @@ each 3 6 protect 62 = $
 step = done 1 refused InUse
 encoding = 0
 step = worked
-in-hand = no
+under-way = no
 each 1 2 step = worked
 step = reserved
 step = worked
-has-in-hand set-replay on 3 = yes
+has-under-way set-replay on 3 = yes
 
-# A command that does not wait, and a refill, finish what is in hand first.
-story a reservation in hand is finished first
+# A command that does not wait, and a refill, finish what is under way first.
+story a reservation under way is finished first
 with loss=last
 with loss=durable
 use sender
@@ -210,7 +210,7 @@ open
 next 0 = 13
 window = 3
 
-# A refill that finishes a reservation in hand uses its turn: the command that waits then is first.
+# A refill that finishes a reservation under way uses its turn: the command that waits then is first.
 story a reservation that a refill finishes uses its turn
 use sender
 each 1 2 protect 62 = $
@@ -219,7 +219,7 @@ refill
 each 3 6 protect 62 = $
 submit set-replay on 3 = 1
 step = worked
-has-in-hand set-replay on 3 = yes
+has-under-way set-replay on 3 = yes
 
 # The device passes no call behind the opening.
 story a step without work makes no device call

@@ -1,4 +1,4 @@
-# Stops at each device call: what is found is what stood before, or that and the one thing in hand.
+# Stops at each device call: what is found is what stood before, or that and the one thing under way.
 # The endpoint sends, number 5 is next, and has the peer's association 2: four records, so that an
 # opening makes 264 device calls. The last write of a gate stands where the power loss leaves it,
 # though its sync did not come.
@@ -28,7 +28,7 @@ next 0 = 5
 numbers b 2 = 1 1
 
 setup stood before
-in-hand = no
+under-way = no
 stopped = no
 next 0 = 5
 numbers b 2 = 1 1
@@ -41,9 +41,9 @@ use stored
 fail 264+$calls on
 open
 set-replay on 3 = Disk
-has-in-hand set-replay on 3 = yes
+has-under-way set-replay on 3 = yes
 use stopped
-has-in-hand set-replay on 3 = yes
+has-under-way set-replay on 3 = yes
 power-loss $loss
 fail never
 open
@@ -57,7 +57,7 @@ use stored
 fail 264+4 on
 open
 set-replay on 3
-in-hand = no
+under-way = no
 stopped = no
 window = 3
 power-loss $loss
@@ -78,9 +78,9 @@ fail 264+$calls on
 open
 receive b 5 2 5 62 = held back
 refill = Disk
-in-hand = no
+under-way = no
 use stopped
-in-hand = no
+under-way = no
 power-loss $loss
 fail never
 open

@@ -7,7 +7,7 @@ setup found
 open-journal
 identity = 12153524c0895e81 4 4
 
-# Each step of an append is one call of the disk, and a step with nothing in hand is none: the disk
+# Each step of an append is one call of the disk, and a step with nothing under way is none: the disk
 # passes on four calls and no more.
 story an append is four steps of one call
 use new

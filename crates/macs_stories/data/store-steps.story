@@ -71,8 +71,8 @@ open-store
 tx-ceiling 0 = 5
 rx-ceiling 12153524c0895e81 0 = 9
 
-# A command goes on to its end from each of its steps, and no call is made where none is in hand.
-story work in hand is finished
+# A command goes on to its end from each of its steps, and no call is made where none is under way.
+story work under way is finished
 with loss=last
 with loss=durable
 use new
@@ -164,7 +164,7 @@ power-loss $loss
 open-store
 tx-ceiling 0 = $ceiling
 
-# The device passes two calls of the command. Nothing is in hand then, and nothing more is taken.
+# The device passes two calls of the command. Nothing is under way then, and nothing more is taken.
 story a call that fails ends the work
 with loss=last
 with loss=durable
@@ -203,7 +203,7 @@ tx-ceiling 0 = 5
 rx-ceiling 12153524c0895e81 0 = 1
 
 # The first call stops the store.
-story a stopped store takes nothing in hand
+story a stopped store begins nothing
 with generation=1 last=255
 use filled
 fail 515 on

@@ -1,5 +1,5 @@
 # A store stopped at each device call: what is found is what stood before, or that and the one thing
-# in hand. Its disk has one record, a transmit association, so that an opening makes 261 calls. The
+# under way. Its disk has one record, a transmit association, so that an opening makes 261 calls. The
 # last write of a gate stands, though its sync did not come.
 
 setup stored

@@ -12,7 +12,7 @@ use std::alloc::Global;
 /// An endpoint over the disk of a story.
 pub type Played = Endpoint<StoryDisk>;
 
-/// More steps than any piece of work takes.
+/// More steps than any work takes.
 const MOST_STEPS: u64 = 1_000;
 
 /// Gives a command, which is kept or refused at once.
@@ -115,12 +115,12 @@ fn work(endpoint: &mut Played, words: Words<'_>, answer: &mut Answer) -> Option<
 fn command(endpoint: &mut Played, words: Words<'_>, answer: &mut Answer) -> Option<()> {
     let mut words = words;
     let name = words.take();
-    let is_alone = name != "submit" && name != "has-in-hand";
+    let is_alone = name != "submit" && name != "has-under-way";
     let first = if is_alone { name } else { words.take() };
     let command = whole(command_of(first, &mut words), &words)?;
     match name {
         "submit" => tell_submitted(submitted(endpoint, command), answer),
-        "has-in-hand" => answer.is(endpoint.in_hand() == Some(command)),
+        "has-under-way" => answer.is(endpoint.under_way() == Some(command)),
         _ => tell_ran(give(endpoint, command), answer),
     }
     Some(())
@@ -171,7 +171,7 @@ fn ask_all(endpoint: &Played, question: &str, answer: &mut Answer) -> Option<()>
     match question {
         "identity" => tell_identity(endpoint.identity(), answer),
         "stopped" => answer.is(endpoint.is_stopped()),
-        "in-hand" => answer.is(endpoint.in_hand().is_some()),
+        "under-way" => answer.is(endpoint.under_way().is_some()),
         _ => return None,
     }
     Some(())

@@ -7,7 +7,7 @@ use Rattle.std.specs.Prelude.{IsOk}
 use Rattle.macs_config.specs.declared.command.Command.{Command}
 use Rattle.macs_endpoint.specs.Queue.{first_command, with_waiting}
 use Rattle.macs_endpoint.specs.State.{Advanced, Advances, Call, Commands, Delivery, Ran, Refilled, Refills, Reply}
-use Rattle.macs_endpoint.specs.State.{State, Submits, Submitted, state_after_fault, state_with_in_hand}
+use Rattle.macs_endpoint.specs.State.{State, Submits, Submitted, state_after_fault, state_with_under_way}
 use Rattle.macs_endpoint.specs.Step.{AdvanceStep, CommandStep, Ends, RefillStep, SubmitStep, TakesUp}
 use Rattle.macs_endpoint.specs.Step.{state_without_first}
 use Rattle.macs_endpoint.specs.declared.fault.CommandFault.{CommandFault}
@@ -108,7 +108,7 @@ module _ (earlier : List Delivery) (old : State) (o : Observer) (m : Matches ear
         fail later,
         refl,
         record {
-          matches = same-state earlier _ new (fail later) is (after-fault earlier (state_with_in_hand old c) later
+          matches = same-state earlier _ new (fail later) is (after-fault earlier (state_with_under_way old c) later
               (with-hand earlier old later c begun (may-begin earlier old o (Commands c) m)));
           begins = stopped-begins new (fail later) (ap (λ (s : State). s.stopped) is);
         },

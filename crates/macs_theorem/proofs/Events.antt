@@ -9,7 +9,7 @@ use Rattle.macs_disk.specs.States.{Image, IsSound}
 use Rattle.macs_journal.specs.declared.fault.JournalFault.{JournalFault}
 use Rattle.macs_store.specs.Value.{StoreValue}
 use Rattle.macs_store.specs.Value as store
-use Rattle.macs_endpoint.specs.Advancing.{AdvancesAs, BeginsWith, piece_among, piece_by_turn}
+use Rattle.macs_endpoint.specs.Advancing.{AdvancesAs, BeginsWith, due_among, due_by_turn}
 use Rattle.macs_endpoint.specs.Calls.{AdvancesIn, IsCall}
 use Rattle.macs_endpoint.specs.Ceilings.{Raise}
 use Rattle.macs_endpoint.specs.Lives.{Transition, exchange_of}
@@ -216,12 +216,12 @@ module _ {D : Type 0} (disk_of : D → Disk) (sound : (it : D) → IsHonest (dis
 
   -- where no work is under way, a step is idle only where no command waits
   by_turn : (old new : EndpointValue D) (whose : Turn) (raise : Raise) (first : Waiting)
-      → BeginsWith old (Some (piece_by_turn whose raise first)) (Ok Idle) new → ⊥
+      → BeginsWith old (Some (due_by_turn whose raise first)) (Ok Idle) new → ⊥
   by_turn old new turns.Reservation raise first begins = begins
   by_turn old new turns.Command raise first begins = begins
 
   busy : (old new : EndpointValue D) (raise : Option Raise) (first : Waiting)
-      → BeginsWith old (piece_among old.turn raise (Some first)) (Ok Idle) new → ⊥
+      → BeginsWith old (due_among old.turn raise (Some first)) (Ok Idle) new → ⊥
   busy old new None first begins = begins
   busy old new (Some raise) first begins = by_turn old new old.turn raise first begins
 
@@ -231,7 +231,7 @@ module _ {D : Type 0} (disk_of : D → Disk) (sound : (it : D) → IsHonest (dis
   free old new (first ∷ rest) is advances =
       absurd (advances.goes_on (λ idle. busy old new (raise_in old) first
       (subst
-      (λ (ws : List Waiting). BeginsWith old (piece_among old.turn (raise_in old) (first_waiting ws)) (Ok Idle) new)
+      (λ (ws : List Waiting). BeginsWith old (due_among old.turn (raise_in old) (first_waiting ws)) (Ok Idle) new)
       is (advances.begins idle))))
 
   -- no command is refused for the length of its key, and a step is idle only where none waits
@@ -378,7 +378,7 @@ module _ {D : Type 0} (disk_of : D → Disk) (sound : (it : D) → IsHonest (dis
           on.0,
           on.1,
           subst (λ (o : Observer). IsLeft new o) (sym known.1) (left Advances (Advanced (Ok Idle)) o
-              (taking-none (logs_of h.past).given (state_of old h.logs) o matches old.in_hand old.waiting
+              (taking-none (logs_of h.past).given (state_of old h.logs) o matches old.under_way old.waiting
               (sym matches.waiting ∙ known.0)) is passes),
         )
 

@@ -70,7 +70,7 @@ record LeavesRest (old new : State) : Type 0 where
   waiting : new.waiting ≡ old.waiting
   tickets : new.tickets ≡ old.tickets
   stopped : new.stopped ≡ old.stopped
-  in_hand : new.in_hand ≡ old.in_hand
+  under_way : new.under_way ≡ old.under_way
   given : new.logs.given ≡ old.logs.given
 
 sent_rest : (old : State) (plain : List ℕ) (pn : ℕ) (out : List ℕ) (new : State)
@@ -82,7 +82,7 @@ sent_rest old plain pn out new (none, (o, is_o, is_pn, is_out, is)) = record {
   waiting = ap (λ (s : State). s.waiting) is;
   tickets = ap (λ (s : State). s.tickets) is;
   stopped = ap (λ (s : State). s.stopped) is;
-  in_hand = ap (λ (s : State). s.in_hand) is;
+  under_way = ap (λ (s : State). s.under_way) is;
   given = ap (λ (s : State). s.logs.given) is;
 }
 
@@ -152,7 +152,7 @@ module _ (sectors : ℕ) (earlier : List Delivery) (old : State) (moment : Momen
         sent = ap (λ (used : List Use). record { key = f.sa.key; pn = pn } ∷ used) m.sent ∙ sym f.logged;
         delivered = m.delivered ∙ sym rest.given;
         before = m.before;
-        hand = λ c hand. m.hand c (sym rest.in_hand ∙ hand);
+        hand = λ c hand. m.hand c (sym rest.under_way ∙ hand);
       } in
       (later, expected, record { matches = matches; begins = λ d begun running. first d begun })
 

@@ -12,7 +12,7 @@ use Rattle.macs_config.specs.Apply.{apply, config_after, refusal_of}
 use Rattle.macs_config.specs.declared.command.Command.{Command}
 use Rattle.macs_config.proofs.Spent.{among-before}
 use Rattle.macs_endpoint.specs.Queue.{first_command}
-use Rattle.macs_endpoint.specs.State.{Call, Delivery, State, state_after_fault, state_with_in_hand}
+use Rattle.macs_endpoint.specs.State.{Call, Delivery, State, state_after_fault, state_with_under_way}
 use Rattle.macs_endpoint.specs.Step.{next_after, numbers_after, state_after_command, state_without_first}
 use Rattle.macs_endpoint.specs.declared.queue.Waiting.{Waiting}
 use Rattle.macs_headline.specs.History.{Blank, Formatted, Past}
@@ -50,7 +50,7 @@ pub record Matches (earlier : List Delivery) (s : State) (o : Observer) : Type 0
   pub sent : o.sent ≡ s.logs.used
   pub delivered : o.delivered ≡ s.logs.given
   pub before : o.before ≡ earlier
-  pub hand : (c : Command) → s.in_hand ≡ Some c → o.begun ≡ Some c
+  pub hand : (c : Command) → s.under_way ≡ Some c → o.begun ≡ Some c
 
 -- and of what is past
 abbrev pub MatchesPast : Past → Observer → Type 0
@@ -198,7 +198,7 @@ module _ (earlier : List Delivery) where
 
   -- a command is under way
   pub with-hand : (s : State) (o : Observer) (c : Command) → o.begun ≡ Some c → Matches earlier s o
-      → Matches earlier (state_with_in_hand s c) o
+      → Matches earlier (state_with_under_way s c) o
   with-hand s o c begun m = record {
     formatted = m.formatted;
     settings = m.settings;

@@ -14,7 +14,7 @@ use Rattle.macs_store.specs.Standing.{Standing, new_standing}
 use Rattle.macs_endpoint.specs.Restart.{Restart, Resumes, RxRises, TxRises, opened_state, state_during}
 use Rattle.macs_endpoint.specs.Restart.{state_taking_alone, state_taking_first}
 use Rattle.macs_endpoint.specs.State.{Advances, Call, Commands, Delivery, Protects, Receives, Refills, State, Submits}
-use Rattle.macs_endpoint.specs.State.{no_logs, state_with_in_hand}
+use Rattle.macs_endpoint.specs.State.{no_logs, state_with_under_way}
 use Rattle.macs_endpoint.specs.Step.{state_after_command}
 use Rattle.macs_endpoint.specs.declared.queue.Waiting.{Waiting}
 use Rattle.macs_headline.specs.History.{Blank, FitsPast, FormatLeads, Formatted, Leads, Past, Refuses, logs_of}
@@ -244,8 +244,8 @@ formats-are-expected past identity (Err fault) new o leads m =
 
 -- none is taken where none waits
 pub taking-none : (earlier : List Delivery) (s : State) (o : Observer) → Matches earlier s o
-    → (in_hand : Option Command) (waiting : List Waiting) → waiting ≡ []
-    → Matches earlier (state_taking_first s in_hand waiting) o
+    → (under_way : Option Command) (waiting : List Waiting) → waiting ≡ []
+    → Matches earlier (state_taking_first s under_way waiting) o
 taking-none earlier s o m None [] is = m
 taking-none earlier s o m None (one ∷ rest) is = absurd (cc)
 taking-none earlier s o m (Some c) waiting is = m
@@ -257,7 +257,7 @@ module _ (earlier : List Delivery) (s : State) (o : Observer) (follows : Follows
   -- where the endpoint runs and accepts a command, that may be under way
   taking : (stopped accepts : Bool) (call : Call) (c : Command) → s.stopped ≡ stopped
       → (s.stopped ≡ false → option_or o.begun (begun_in o.stopped call o.waiting) ≡ Some c)
-      → Matches earlier (cond (not stopped && accepts) (state_with_in_hand s c) s) (begin call o)
+      → Matches earlier (cond (not stopped && accepts) (state_with_under_way s c) s) (begin call o)
   taking true accepts call c is begins = may-begin earlier s o call m
   taking false true call c is begins =
       with-hand earlier s (begin call o) c (begins is) (may-begin earlier s o call m)
@@ -272,8 +272,8 @@ module _ (earlier : List Delivery) (s : State) (o : Observer) (follows : Follows
       (λ running. begins-alone o.stopped (m.stopped ∙ running) o.waiting o.begun (in_front running) c (m.waiting ∙ is))
   taking_alone (one ∷ rest) c is = may-begin earlier s o (Commands c) m
 
-  taking_first : (in_hand : Option Command) (waiting : List Waiting) → s.waiting ≡ waiting
-      → Matches earlier (state_taking_first s in_hand waiting) (begin Advances o)
+  taking_first : (under_way : Option Command) (waiting : List Waiting) → s.waiting ≡ waiting
+      → Matches earlier (state_taking_first s under_way waiting) (begin Advances o)
   taking_first None [] is = may-begin earlier s o Advances m
   taking_first None (one ∷ rest) is =
       taking s.stopped (is_ok (apply s.edition s.identity s.config one.command)) Advances one.command refl
@@ -286,6 +286,6 @@ module _ (earlier : List Delivery) (s : State) (o : Observer) (follows : Follows
   cuts-may-begin (Commands c) = taking_alone s.waiting c refl
   cuts-may-begin Refills = may-begin earlier s o Refills m
   cuts-may-begin (Submits c) = may-begin earlier s o (Submits c) m
-  cuts-may-begin Advances = taking_first s.in_hand s.waiting refl
+  cuts-may-begin Advances = taking_first s.under_way s.waiting refl
   cuts-may-begin (Protects plain) = may-begin earlier s o (Protects plain) m
   cuts-may-begin (Receives frame) = may-begin earlier s o (Receives frame) m

@@ -5,9 +5,9 @@ ghost use Rattle.macs_commands.specs.Talks.{Note, Talk, with_notes, with_talk};
 ghost use Rattle.macs_control.specs.LastGood.{NotesGoodIf, good_after, good_frames};
 ghost use Rattle.macs_control.specs.Listening.{LooksIf, MeasuresIf, is_time, measured_of, reports_of};
 ghost use Rattle.macs_control.specs.Listening.{said_of_ending, said_of_taking, turns_left};
-ghost use Rattle.macs_control.specs.Listening.{under_way_after};
+ghost use Rattle.macs_control.specs.Listening.{unanswered_after};
 ghost use Rattle.macs_rxsc.specs.Value as rxsc;
-ghost use Rattle.macs_control.specs.UnderWay.{entries_of, is_full, without};
+ghost use Rattle.macs_control.specs.Unanswered.{entries_of, is_full, without};
 
 use crate::desk::key_notes::KeyNotes;
 use crate::desk::last_good::{Time, good_frames, note_good};
@@ -15,7 +15,7 @@ use crate::desk::listening::{TURNS_BETWEEN, is_time, look, rest, turns_between};
 use crate::desk::metrics::measure;
 use crate::desk::overruns::Overruns;
 use crate::desk::replies::{ended, not_taken};
-use crate::desk::under_way::{Queue, UnderWay};
+use crate::desk::unanswered::{Submitted, Unanswered};
 use macs_commands::requests::{Client, Clients, Metrics};
 use macs_disk::SectorDisk;
 use macs_edge::{CommandEnd, Counted, Desk, Order, Wire};
@@ -26,8 +26,8 @@ use std::alloc::Global;
 /// A desk that serves clients. It listens to them after each quiet turn, preceded by a sleep, and
 /// otherwise at each 64th turn, and then takes one line; after a command it listens again before
 /// the next turn. Reports are answered at once. A command is submitted once its key is noted, and
-/// its client is answered once it is done: `ok` only after it is kept. Up to 16 commands are under
-/// way; while there are 16, no line is taken. `stop` ends the relay, as does a request to end the
+/// its client is answered once it is done: `ok` only after it is kept. While 16 commands are
+/// unanswered, no line is taken. `stop` ends the relay, as does a request to end the
 /// process.
 ///
 /// Nothing that clients do delays a frame: no call waits for a client. A client that goes away
@@ -39,7 +39,7 @@ pub struct ControlDesk<C, M, S> {
     clients: C,
     metrics: M,
     system: S,
-    under_way: Queue,
+    unanswered: Unanswered,
     /// The client whose line was taken last.
     asking: Client,
     /// How many frames had verified at the last look.
@@ -49,7 +49,7 @@ pub struct ControlDesk<C, M, S> {
 }
 
 impl<C: Clients, M: Metrics, S: Overruns + KeyNotes> ControlDesk<C, M, S> {
-    /// A desk for this run of the program, with no command under way.
+    /// A desk for this run of the program, with no unanswered command.
     pub fn new(
         alloc: Global,
         program: Program,
@@ -61,7 +61,7 @@ impl<C: Clients, M: Metrics, S: Overruns + KeyNotes> ControlDesk<C, M, S> {
         ensures clients { result.clients ≡ clients }
         ensures metrics { result.metrics ≡ metrics }
         ensures system { result.system ≡ system }
-        ensures none { entries_of result.under_way ≡ [] }
+        ensures none { entries_of result.unanswered ≡ [] }
         ensures good { result.good ≡ 0 }
         ensures turns { result.turns_left ≡ 63 }
     {
@@ -71,7 +71,7 @@ impl<C: Clients, M: Metrics, S: Overruns + KeyNotes> ControlDesk<C, M, S> {
             clients,
             metrics,
             system,
-            under_way: Queue::new(),
+            unanswered: Unanswered::new(),
             asking: Client::default(),
             good: 0,
             turns_left: TURNS_BETWEEN,
@@ -105,7 +105,7 @@ impl<
     fn next(&mut self, endpoint: &Endpoint<D>, controlled: &P, common: &W, was_quiet: bool) -> Order
         ensures talk { (talk : List Talk)
             × LooksIf (is_time was_quiet self.old.turns_left) was_quiet
-            (is_full (entries_of self.old.under_way))
+            (is_full (entries_of self.old.unanswered))
             (reports_of self.new.program (S.known self.old.system) (S.answers self.old.system)
             endpoint.now (P.wire_counts controlled.now) (W.wire_counts common.now))
             self.old.asking talk result self.new.asking
@@ -125,7 +125,7 @@ impl<
         ensures program { self.new.program
             ≡ record self.old.program { last_good = self.new.program.last_good } }
         ensures system { self.new.system ≡ self.old.system }
-        ensures under_way { entries_of self.new.under_way ≡ entries_of self.old.under_way }
+        ensures unanswered { entries_of self.new.unanswered ≡ entries_of self.old.unanswered }
         ensures turns { self.new.turns_left
             ≡ turns_left (is_time was_quiet self.old.turns_left) self.old.turns_left result }
     {
@@ -155,7 +155,7 @@ impl<
             &controlled,
             &common,
             &self.system,
-            self.under_way.is_full(),
+            self.unanswered.is_full(),
             &mut self.clients,
             &mut self.asking,
         );
@@ -169,13 +169,13 @@ impl<
         ensures program { self.new.program ≡ self.old.program }
         ensures system { self.new.system ≡ self.old.system }
         ensures metrics { self.new.metrics ≡ self.old.metrics }
-        ensures under_way { entries_of self.new.under_way
-            ≡ under_way_after (entries_of self.old.under_way) self.old.asking answer }
+        ensures unanswered { entries_of self.new.unanswered
+            ≡ unanswered_after (entries_of self.old.unanswered) self.old.asking answer }
         ensures asking { self.new.asking ≡ self.old.asking }
         ensures good { self.new.good ≡ self.old.good }
     {
         match answer {
-            Ok(ticket) => self.under_way.join(UnderWay {
+            Ok(ticket) => self.unanswered.join(Submitted {
                 ticket: ticket.get(),
                 client: self.asking,
             }),
@@ -186,16 +186,16 @@ impl<
     fn answered(&mut self, ticket: Ticket, end: CommandEnd)
         ensures talk { C.talk self.new.clients
             ≡ with_talk (C.talk self.old.clients)
-            (said_of_ending (entries_of self.old.under_way) ticket end) }
+            (said_of_ending (entries_of self.old.unanswered) ticket end) }
         ensures program { self.new.program ≡ self.old.program }
         ensures system { self.new.system ≡ self.old.system }
         ensures metrics { self.new.metrics ≡ self.old.metrics }
-        ensures under_way { entries_of self.new.under_way
-            ≡ without (entries_of self.old.under_way) ticket }
+        ensures unanswered { entries_of self.new.unanswered
+            ≡ without (entries_of self.old.unanswered) ticket }
         ensures asking { self.new.asking ≡ self.old.asking }
         ensures good { self.new.good ≡ self.old.good }
     {
-        match self.under_way.leave(ticket.get()) {
+        match self.unanswered.leave(ticket.get()) {
             Some(client) => self.clients.say(client, ended(end).as_slice()),
             None => {}
         }

@@ -21,7 +21,7 @@ pub fn clients_are_told<D: SectorDisk>()
     ensures { (turns : ℕ) (old new : Relay D) (events : List DeskEvent) (talks : List (List Talk))
         (before after : DeskState) (result : Result RelaySummary RefillFault)
         → old.to_common ≡ empty_lane → old.to_controlled ≡ empty_lane → old.endpoint.waiting ≡ []
-        → before.under_way ≡ [] → Attends D.disk turns old events result new
+        → before.unanswered ≡ [] → Attends D.disk turns old events result new
         → Speaks before events talks after
-        → ClientsAreTold before.asking events talks × (after.under_way ≡ []) }
+        → ClientsAreTold before.asking events talks × (after.unanswered ≡ []) }
 {}

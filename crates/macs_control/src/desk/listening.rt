@@ -74,7 +74,8 @@ fn listen<D: SectorDisk, S: Overruns + KeyNotes, C: Clients>(
     }
 }
 
-/// Checks whether the process was asked to end, and listens, unless 16 commands are under way.
+/// Checks whether the process was asked to end, and listens, unless 16 commands are
+/// unanswered.
 pub fn look<D: SectorDisk, S: Overruns + KeyNotes, C: Clients>(
     alloc: Global,
     program: &Program,

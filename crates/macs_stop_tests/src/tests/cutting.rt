@@ -111,7 +111,7 @@ fn live(rt: &impl Abort, endpoint: Endpoint<Fuse<MemDisk>>, known: Known) -> (bo
     let mut known = known;
     let is_cut = play(rt, &mut endpoint, &mut known).is_err();
     assert!(rt; endpoint.is_stopped() == is_cut);
-    known.is_in_hand = endpoint.in_hand().is_some();
+    known.is_under_way = endpoint.under_way().is_some();
     let disk = endpoint.into_disk().into_inner();
     (is_cut, Cut { disk, known })
 }

@@ -114,7 +114,7 @@ fn opened_again<'a>(
     known: &mut Known,
     going: Going,
 ) -> Endpoint<Disk<'a>> {
-    known.is_in_hand = stopped.in_hand().is_some();
+    known.is_under_way = stopped.under_way().is_some();
     let endpoint = opened(rt, folder, go_on(rt, folder, going), going);
     known.catch_up(rt, &endpoint);
     endpoint
@@ -168,7 +168,7 @@ fn cut_last<'a>(rt: &impl Abort, endpoint: &mut Endpoint<Disk<'a>>, known: &mut 
     for _ in 0..steps {
         assert!(rt; step(rt, endpoint).is_ok());
     }
-    known.is_in_hand = endpoint.in_hand().is_some();
+    known.is_under_way = endpoint.under_way().is_some();
 }
 
 /// Plays all parts, or those up to the failure and frames.

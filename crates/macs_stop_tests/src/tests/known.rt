@@ -17,7 +17,7 @@ pub(super) struct Known {
     /// Those that were submitted made this one.
     pub(super) after: Config,
     /// The work on the disk of the last submitted command began and did not end.
-    pub(super) is_in_hand: bool,
+    pub(super) is_under_way: bool,
     /// The disk was formatted.
     pub(super) is_formatted: bool,
     pub(super) passed: Passed,
@@ -38,7 +38,7 @@ impl Known {
         Known {
             before: Config::new(identity),
             after: Config::new(identity),
-            is_in_hand: false,
+            is_under_way: false,
             is_formatted: false,
             passed: Passed {
                 sent: [0; 3],
@@ -52,7 +52,7 @@ impl Known {
     pub(super) fn catch_up<D: SectorDisk>(&mut self, rt: &impl Abort, endpoint: &Endpoint<D>) {
         assert!(rt; self.allows(endpoint.config()));
         assert!(rt; self.passed.is_behind(rt, endpoint));
-        self.is_in_hand = false;
+        self.is_under_way = false;
         self.passed.catch_up(rt, endpoint);
     }
 
@@ -63,7 +63,7 @@ impl Known {
 
     /// Whether a configuration is that from before the command under way or after it.
     pub(super) fn allows(&self, found: &Config) -> bool {
-        is_same(found, &self.before) || (self.is_in_hand && is_same(found, &self.after))
+        is_same(found, &self.before) || (self.is_under_way && is_same(found, &self.after))
     }
 }
 

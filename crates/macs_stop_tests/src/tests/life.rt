@@ -11,7 +11,7 @@ use macs_rxsc::{Kind, Verdict};
 use macs_txsc::TxFault;
 use std::process::Abort;
 
-/// More steps than any piece of work takes.
+/// More steps than any work takes.
 const MOST_STEPS: u32 = 700;
 
 /// A device call failed.

@@ -6,7 +6,7 @@ use Rattle.macs_headline.proofs.Configurations.{configuration-is}
 use Rattle.macs_headline.proofs.Deliveries.{deliveries-are-verified, others-are-bare}
 use Rattle.macs_headline.proofs.FormatsOnce.{formats-once, refused-by-history}
 use Rattle.macs_headline.proofs.FoundOnce.{finds-one}
-use Rattle.macs_headline.proofs.HandedIn.{in-hand-was-given}
+use Rattle.macs_headline.proofs.HandedIn.{under-way-was-given}
 use Rattle.macs_headline.proofs.Identities.{identity-was-given}
 use Rattle.macs_headline.proofs.Logs.{nothing-forgotten}
 use Rattle.macs_headline.proofs.Numbers.{begin-as-asked, given-apart, given-below, ok-apart, skips-few}
@@ -71,8 +71,8 @@ returns-clause-begin_as_asked c = begin-as-asked
 pub returns-clause-commands_kept : goal.returns-clause-commands_kept
 returns-clause-commands_kept c = commands-kept
 
-pub returns-clause-in_hand_was_given : goal.returns-clause-in_hand_was_given
-returns-clause-in_hand_was_given c = in-hand-was-given
+pub returns-clause-under_way_was_given : goal.returns-clause-under_way_was_given
+returns-clause-under_way_was_given c = under-way-was-given
 
 pub returns-clause-finds_one : goal.returns-clause-finds_one
 returns-clause-finds_one c = finds-one

@@ -1,4 +1,4 @@
-use Rattle.macs_headline.proofs.BegunAnew.{openings-begin-anew}
+use Rattle.macs_headline.proofs.Migrated.{openings-migrate}
 use Rattle.macs_headline.proofs.Chains.{calls-are-deeds, chains-answer}
 use Rattle.macs_headline.proofs.Chains.{deeds-are-histories, new-deeds-are-histories}
 use Rattle.macs_headline.proofs.Moments.{ends-are-cuts}
@@ -25,8 +25,8 @@ returns-clause-cut g c = ends-are-cuts g.D.SectorDisk.disk
 pub returns-clause-refusals : goal.returns-clause-refusals
 returns-clause-refusals g c = refusals-are-failures g.D.SectorDisk.disk g.met.D.SectorDisk.sound
 
-pub returns-clause-begun_anew : goal.returns-clause-begun_anew
-returns-clause-begun_anew g c = openings-begin-anew g.D.SectorDisk.disk g.met.D.SectorDisk.sound
+pub returns-clause-migrated : goal.returns-clause-migrated
+returns-clause-migrated g c = openings-migrate g.D.SectorDisk.disk g.met.D.SectorDisk.sound
 
 pub returns-clause-deeds : goal.returns-clause-deeds
 returns-clause-deeds g c = calls-are-deeds g.D.SectorDisk.disk

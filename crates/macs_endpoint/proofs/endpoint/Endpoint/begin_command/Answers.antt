@@ -39,7 +39,7 @@ returns g c =
     let at = (goal.at.returns g c).After-start_first in
     let e = c.args.self.now in
     let made = starts g at (Ok tt) c.in_default.is in
-    let has = made.starts.in_hand in
+    let has = made.starts.under_way in
     keep-begins g.D.SectorDisk.disk e made.sound c.requires.running c.requires.idle c.args.first
     c.command_in_range.ensures
     (takes-first e.turn (raise_in e) (first_waiting e.waiting) c.args.first c.requires.next)

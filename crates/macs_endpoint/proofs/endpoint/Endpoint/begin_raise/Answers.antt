@@ -40,6 +40,6 @@ returns g c =
     (raise_of c.args.raise)
     (raises-first e.turn (raise_in e) (first_waiting e.waiting) (raise_of c.args.raise) c.requires.next) c.requires.next
     c.start_raise.new.self.store
-    (on-ok c.start_raise.result ok starts.in_hand) c.start_raise.new.self c.go_on_reserving.new.self
+    (on-ok c.start_raise.result ok starts.under_way) c.start_raise.new.self c.go_on_reserving.new.self
     c.go_on_reserving.result
     (on-ok c.start_raise.result ok starts.taken) c.go_on_reserving.ensures

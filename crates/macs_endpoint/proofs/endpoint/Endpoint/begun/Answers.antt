@@ -86,7 +86,7 @@ module _ (g : Over) (c : After-new-3 g) where
     store = store;
     tx = tx;
     rx = rx;
-    in_hand = None;
+    under_way = None;
     reserving = None;
     waiting = c.new-3.result.waiting;
     tickets = c.new-3.result.given;
@@ -98,7 +98,7 @@ module _ (g : Over) (c : After-new-3 g) where
     store = subst (λ (o : Result (StoreValue g.row.D.Denot) (RecoverRefused g.row.D.Denot)). IfOk o IsIdle)
         c.in-Ok.is c.requires;
     reserving = refl;
-    in_hand = λ running. refl;
+    under_way = λ running. refl;
   }
 
   kept : IsSoundEndpoint opened

@@ -18,7 +18,7 @@ use Rattle.macs_endpoint.proofs.endpoint.Endpoint.finish_reservation.Goals as go
 
 module _ (g : Over) (c : After-take g) where
   abbrev old : EndpointValue g.row.D.Denot
-  old = endpoint_of c.self.inside.store c.self.inside.channels c.self.inside.in_hand c.self.inside.reserving
+  old = endpoint_of c.self.inside.store c.self.inside.channels c.self.inside.under_way c.self.inside.reserving
       c.self.inside.queue c.self.inside.turn
 
   running : is_stopped old ≡ false
@@ -39,7 +39,7 @@ returns-in_default g c =
 
 module _ (g : Over) (c : After-finish g) where
   abbrev before : EndpointValue g.row.D.Denot
-  before = endpoint_of c.self.inside.store c.self.inside.channels c.self.inside.in_hand c.self.inside.reserving
+  before = endpoint_of c.self.inside.store c.self.inside.channels c.self.inside.under_way c.self.inside.reserving
       c.self.inside.queue c.self.inside.turn
 
   runs : is_stopped before ≡ false

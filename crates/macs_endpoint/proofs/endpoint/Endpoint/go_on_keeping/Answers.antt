@@ -24,7 +24,7 @@ use Rattle.macs_endpoint.proofs.endpoint.Endpoint.go_on_keeping.Goals as goal
 
 module _ (g : Over) (c : After-step g) where
   abbrev old : EndpointValue g.row.D.Denot
-  old = endpoint_of c.self.inside.store c.self.inside.channels c.self.inside.in_hand c.self.inside.reserving
+  old = endpoint_of c.self.inside.store c.self.inside.channels c.self.inside.under_way c.self.inside.reserving
       c.self.inside.queue c.self.inside.turn
 
   work : IsKeeping old
@@ -57,14 +57,14 @@ pop-done-requires g c =
 
 -- what was judged is of the command that waited first
 checked_is : (g : Over) (c : After-unwrap-checked g)
-    → IsKeeping (endpoint_of c.self.inside.store c.self.inside.channels c.self.inside.in_hand c.self.inside.reserving
+    → IsKeeping (endpoint_of c.self.inside.store c.self.inside.channels c.self.inside.under_way c.self.inside.reserving
     c.self.inside.queue c.self.inside.turn)
     → c.unwrap-checked.result ≡ c.pop-done.result.command
 checked_is g c held =
     let front : held.first ∷ held.rest ≡ c.pop-done.result ∷ c.pop-done.new.self.waiting = sym held.waiting
     ∙ c.pop-done.ensures.waiting in
     let same : held.first ≡ c.pop-done.result = cc in
-    let found : Some held.first.command ≡ Some c.unwrap-checked.result = sym held.in_hand ∙ sym c.take.ensures.value
+    let found : Some held.first.command ≡ Some c.unwrap-checked.result = sym held.under_way ∙ sym c.take.ensures.value
     ∙ c.unwrap-checked.ensures in
     let its : held.first.command ≡ c.unwrap-checked.result = cc in
     sym its ∙ ap (λ (w : Waiting). w.command) same
@@ -100,7 +100,7 @@ invariant_of-self g c =
       tx =
           c.follow.new.self.tx;
       rx = c.follow.new.self.rx;
-      in_hand = o;
+      under_way = o;
       waiting = c.pop-done.new.self.waiting;
       tickets =
           c.pop-done.new.self.given;
@@ -111,7 +111,7 @@ invariant_of-self g c =
       store = c.step.new.self;
       tx = c.follow.new.self.tx;
       rx = c.follow.new.self.rx;
-      in_hand =
+      under_way =
           None;
       waiting = c.pop-done.new.self.waiting;
       tickets = n;
@@ -148,7 +148,7 @@ returns-in-Finished g c =
       store = c.step.new.self;
       tx = c.follow.new.self.tx;
       rx = c.follow.new.self.rx;
-      in_hand = o;
+      under_way = o;
       waiting = c.pop-done.new.self.waiting;
       tickets = c.pop-done.new.self.given;
       turn = turn.Reservation;
@@ -160,7 +160,7 @@ returns-in-Finished g c =
       store = c.step.new.self;
       tx = c.follow.new.self.tx;
       rx = c.follow.new.self.rx;
-      in_hand = None;
+      under_way = None;
       waiting = c.pop-done.new.self.waiting;
       tickets = n;
       turn = turn.Reservation;

@@ -15,7 +15,7 @@ use Rattle.macs_endpoint.specs.declared.refilling.Raise.{Raise as Told}
 use Rattle.macs_endpoint.specs.declared.progress.Step.TheVariants.{Reserved}
 use Rattle.macs_endpoint.specs.declared.turn.Turn.TheVariants as turn
 use Rattle.macs_endpoint.proofs.Ended.{IsDone, given_up-kept, may-lift, raised-kept, raised_to, step-cut, step-done}
-use Rattle.macs_endpoint.proofs.InHand.{some_is}
+use Rattle.macs_endpoint.proofs.Working.{some_is}
 use Rattle.macs_endpoint.proofs.Stepped.{given_up-call, gone_on-call, gone_on-kept, reserved-call, step_fault}
 use Rattle.macs_endpoint.proofs.Stepped.{still_going}
 use Rattle.macs_endpoint.proofs.endpoint.Endpoint.go_on_reserving.Given.{Over}
@@ -24,7 +24,7 @@ use Rattle.macs_endpoint.proofs.endpoint.Endpoint.go_on_reserving.Goals as goal
 
 module _ (g : Over) (c : After-step g) where
   abbrev old : EndpointValue g.row.D.Denot
-  old = endpoint_of c.self.inside.store c.self.inside.channels c.self.inside.in_hand c.self.inside.reserving
+  old = endpoint_of c.self.inside.store c.self.inside.channels c.self.inside.under_way c.self.inside.reserving
       c.self.inside.queue c.self.inside.turn
 
   work : IsReserving old

@@ -6,18 +6,18 @@ use Rattle.macs_endpoint.specs.declared.fault.CommandFault.TheVariants.{Disk}
 use Rattle.macs_endpoint.specs.declared.fault.RefillFault.{RefillFault}
 use Rattle.macs_endpoint.specs.declared.fault.RefillFault.TheVariants as refill
 use Rattle.macs_endpoint.specs.declared.turn.Turn.TheVariants.{Reservation}
-use Rattle.macs_endpoint.proofs.InHand.{none-kept}
+use Rattle.macs_endpoint.proofs.Working.{none-kept}
 use Rattle.macs_endpoint.proofs.KeptBehind.{behind-accepted, behind-keeps, behind-none, behind-running, cut-before}
 use Rattle.macs_endpoint.proofs.KeptBehind.{cut-named, cut-short-kept, ended-well, stopped}
-use Rattle.macs_endpoint.proofs.Work.{free-hand}
+use Rattle.macs_endpoint.proofs.Work.{free-under_way}
 use Rattle.macs_endpoint.proofs.endpoint.Endpoint.keep.Given.{Over}
 use Rattle.macs_endpoint.proofs.endpoint.Endpoint.keep.Goals.{After-finish_reservation}
 use Rattle.macs_endpoint.proofs.endpoint.Endpoint.keep.Goals as goal
 
 module _ (g : Over) (c : After-finish_reservation g) where
   -- no command is under way
-  free : c.args.self.now.in_hand ≡ None
-  free = free-hand c.args.self.now c.facts.ensures c.requires.none c.requires.running
+  free : c.args.self.now.under_way ≡ None
+  free = free-under_way c.args.self.now c.facts.ensures c.requires.none c.requires.running
 
   -- what is said of the reservation under way
   ends : (result : Result (Unit {0}) RefillFault) → c.finish_reservation.result ≡ result
@@ -57,7 +57,7 @@ returns-then-is_err g c =
     let d = g.D.SectorDisk.disk in
     let e = c.args.self.now in
     subst (λ (x : EndpointValue g.row.D.Denot). KeepsCommand d e c.args.checked.now (Err Disk)
-    (record x { in_hand = Some c.args.checked.now; turn = Reservation }))
+    (record x { under_way = Some c.args.checked.now; turn = Reservation }))
     (sym c.self.view_is)
     (cut-before d e c.args.checked.now c.requires.in_range c.requires.running c.requires.none (free g at)
     c.requires.accepted

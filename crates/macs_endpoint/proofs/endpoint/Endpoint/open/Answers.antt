@@ -22,7 +22,7 @@ use Rattle.macs_endpoint.specs.Value.{EndpointValue, is_stopped, state_of}
 use Rattle.macs_endpoint.specs.Opening.{Begins, BeginsOpened, IsOpening, Opens, RefusesOpening}
 use Rattle.macs_endpoint.specs.Restart.{Fits, opened_state}
 use Rattle.macs_endpoint.specs.State.{Logs, State}
-use Rattle.macs_endpoint.proofs.InHand.{kept-backed}
+use Rattle.macs_endpoint.proofs.Working.{kept-backed}
 use Rattle.macs_endpoint.proofs.endpoint.Endpoint.open.Goals as goal
 
 -- ---- a disk that fits a state is refused for the device, or for its last generation
@@ -48,7 +48,7 @@ by_device sectors image GenerationsSpent found fits = inr refl
 begins : {D : Type 0} (e : EndpointValue D) (logs : Logs)
     → (txsc.tx_side_of e.tx).next ≡ (standing_in e.store).ceilings.tx
     → (rxsc.rx_side_of e.rx).numbers ≡ (λ sci an. option_map first_numbers ((standing_in e.store).ceilings.rx sci an))
-    → is_stopped e ≡ false → e.in_hand ≡ None → e.waiting ≡ [] → e.tickets ≡ 0
+    → is_stopped e ≡ false → e.under_way ≡ None → e.waiting ≡ [] → e.tickets ≡ 0
     → state_of e logs ≡ opened_state (standing_in e.store) logs
 begins e logs next numbers running idle none zero = λ i. record {
   edition = this_edition;
@@ -58,7 +58,7 @@ begins e logs next numbers running idle none zero = λ i. record {
   numbers = numbers i;
   logs = logs;
   stopped = running i;
-  in_hand = idle i;
+  under_way = idle i;
   waiting = none i;
   tickets = zero i;
 }

@@ -54,6 +54,6 @@ returns g c =
     let made = starts g at (Ok tt) c.in_ok-start_raise.was in
     begun-raised g.D.SectorDisk.disk c.args.self.now made.sound c.requires.running c.requires.idle
     (raise_of c.args.raise) c.requires.first
-    c.start_raise.new.self.store made.in_hand c.start_raise.new.self c.finish_reservation.new.self
+    c.start_raise.new.self.store made.under_way c.start_raise.new.self c.finish_reservation.new.self
     c.finish_reservation.result made.taken
     made.room c.finish_reservation.ensures

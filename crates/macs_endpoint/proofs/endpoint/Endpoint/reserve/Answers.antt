@@ -6,7 +6,7 @@ use Rattle.macs_endpoint.specs.Reserving.{Raised}
 use Rattle.macs_endpoint.specs.State.{no_logs}
 use Rattle.macs_endpoint.specs.PrivateTypes.{raise_of}
 use Rattle.macs_endpoint.specs.declared.fault.RefillFault.{RefillFault}
-use Rattle.macs_endpoint.proofs.InHand.{at-rest}
+use Rattle.macs_endpoint.proofs.Working.{at-rest}
 use Rattle.macs_endpoint.proofs.RefillCall.{cut-refill, done-refill, reserves-none, reserves-on, turn-less, turn-moves}
 use Rattle.macs_endpoint.proofs.RefillCall.{turn-raised}
 use Rattle.macs_endpoint.proofs.RefillCosts.{raised-none}

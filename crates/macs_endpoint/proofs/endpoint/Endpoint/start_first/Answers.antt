@@ -16,7 +16,7 @@ use Rattle.macs_endpoint.proofs.endpoint.Endpoint.start_first.Goals as goal
 
 module _ (g : Over) (c : After-start_checked g) where
   abbrev old : EndpointValue g.row.D.Denot
-  old = endpoint_of c.self.inside.store c.self.inside.channels c.self.inside.in_hand c.self.inside.reserving
+  old = endpoint_of c.self.inside.store c.self.inside.channels c.self.inside.under_way c.self.inside.reserving
       c.self.inside.queue c.self.inside.turn
 
   running : is_stopped old ≡ false
@@ -53,9 +53,9 @@ start_checked-requires-clause-fits g c =
 pub invariant_of-self-in-Ok : goal.invariant_of-self-in-Ok
 invariant_of-self-in-Ok g c =
     let at = (goal.at.invariant_of-self-in-Ok g c).After-start_checked in
-    let has = (starts g at (Ok tt) c.in_ok-start_checked-in-Ok.was).in_hand in
-    subst (λ (in_hand : Option Command). IsSoundEndpoint
-    (record (old g at) { store = c.start_checked.new.self; in_hand = in_hand })) (sym (taken_is g at))
+    let has = (starts g at (Ok tt) c.in_ok-start_checked-in-Ok.was).under_way in
+    subst (λ (under_way : Option Command). IsSoundEndpoint
+    (record (old g at) { store = c.start_checked.new.self; under_way = under_way })) (sym (taken_is g at))
     (taken-kept g.D.SectorDisk.disk (old g at) c.self.invariant (running g at) (idle g at) c.args.first
     c.command_in_range.ensures (waits g at)
     c.start_checked.new.self has.0 has.1 has.2)
@@ -64,10 +64,10 @@ pub returns-in_ok-start_checked-in-Ok : goal.returns-in_ok-start_checked-in-Ok
 returns-in_ok-start_checked-in-Ok g c =
     let at = (goal.at.returns-in_ok-start_checked-in-Ok g c).After-start_checked in
     let made = starts g at (Ok tt) c.in_ok-start_checked-in-Ok.was in
-    let has = made.in_hand in
+    let has = made.under_way in
     rw (← c.self.view_is)
-    (subst (λ (in_hand : Option Command). StartsFirst g.D.SectorDisk.disk (old g at) c.args.first (Ok tt)
-    (record (old g at) { store = c.start_checked.new.self; in_hand = in_hand }))
+    (subst (λ (under_way : Option Command). StartsFirst g.D.SectorDisk.disk (old g at) c.args.first (Ok tt)
+    (record (old g at) { store = c.start_checked.new.self; under_way = under_way }))
     (sym (taken_is g at)) (record {
       starts = made;
       same = tt;

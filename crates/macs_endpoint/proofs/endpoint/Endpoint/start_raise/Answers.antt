@@ -1,6 +1,6 @@
 use Rattle.std.proofs.Common.{◌≡◌, false, Some, Result, Ok, refl, sym, subst}
 use Rattle.macs_journal.specs.declared.fault.JournalFault.{JournalFault}
-use Rattle.macs_store.specs.Stepping.{HasInHand, Starts}
+use Rattle.macs_store.specs.Stepping.{HasUnderWay, Starts}
 use Rattle.macs_store.specs.Value.{IsIdle, standing_in}
 use Rattle.macs_endpoint.specs.Ceilings.{standing_with_raise}
 use Rattle.macs_endpoint.specs.Needed.{raise_in}
@@ -16,7 +16,7 @@ use Rattle.macs_endpoint.proofs.endpoint.Endpoint.start_raise.Goals as goal
 
 module _ (g : Over) (c : After-self g) where
   abbrev old : EndpointValue g.row.D.Denot
-  old = endpoint_of c.self.inside.store c.self.inside.channels c.self.inside.in_hand c.self.inside.reserving
+  old = endpoint_of c.self.inside.store c.self.inside.channels c.self.inside.under_way c.self.inside.reserving
       c.self.inside.queue c.self.inside.turn
 
   running : is_stopped old ≡ false
@@ -46,9 +46,9 @@ starts g c result is =
     c.start_ceiling.ensures
 
 taken : (g : Over) (c : After-start_ceiling g) → c.start_ceiling.result ≡ Ok tt
-    → HasInHand g.D.SectorDisk.disk c.self.inside.store
+    → HasUnderWay g.D.SectorDisk.disk c.self.inside.store
     (standing_with_raise (standing_in c.self.inside.store) (raise_of c.args.raise)) c.start_ceiling.new.store
-taken g c is = (starts g c (Ok tt) is).in_hand
+taken g c is = (starts g c (Ok tt) is).under_way
 
 pub invariant_of-self-2 : goal.invariant_of-self-2
 invariant_of-self-2 g c =
@@ -64,7 +64,7 @@ returns g c =
     rw (← c.self.view_is) (record {
       refused = tt;
       room = λ is. let no = (starts g at.After-start_ceiling (Ok tt) c.in_ok-start_ceiling.was).spent.1 is in cc;
-      in_hand = has;
+      under_way = has;
       taken = refl;
       reserving = begun-reserving g.D.SectorDisk.disk (old g at.After-self) c.self.invariant (running g at.After-self)
           (idle g at.After-self)

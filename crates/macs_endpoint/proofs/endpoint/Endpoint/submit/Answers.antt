@@ -14,7 +14,7 @@ returns-then-is_stopped g c = record {
 
 module _ (g : Over) (c : After-push g) where
   abbrev old : EndpointValue g.row.D.Denot
-  old = endpoint_of c.self.inside.store c.self.inside.channels c.self.inside.in_hand c.self.inside.reserving
+  old = endpoint_of c.self.inside.store c.self.inside.channels c.self.inside.under_way c.self.inside.reserving
       c.self.inside.queue c.self.inside.turn
 
   running : is_stopped old ≡ false

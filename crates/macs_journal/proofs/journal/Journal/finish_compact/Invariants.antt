@@ -2,7 +2,7 @@ use Rattle.std.specs.Prelude.{◌≡◌, ◌≤◌, ◌+◌, false, length}
 use Rattle.macs_disk.specs.Disk.{IsHonest, Works}
 use Rattle.macs_journal.specs.Areas.{other_area}
 use Rattle.macs_journal.specs.Compacting.{compacted_place, next_head}
-use Rattle.macs_journal.specs.Stepping.{AtNextCall, IsCompactHand}
+use Rattle.macs_journal.specs.Stepping.{AtNextCall, IsCompactionUnderWay}
 use Rattle.macs_journal.specs.Value.{AreLent, IsIdle, left_of}
 use Rattle.macs_journal.proofs.Compacting.{IsCompactOf}
 use Rattle.macs_journal.proofs.journal.Journal.finish_compact.Given as goal
@@ -15,15 +15,15 @@ invariant-loop-self g l =
     let head = next_head l.fn.self.place.head (length records) in
     record {
       running : l.self.stopped ≡ false;
-      renews : IsCompactOf head l.self.hand;
-      lent : AreLent l.self.hand records;
+      compacts : IsCompactOf head l.self.under_way;
+      lent : AreLent l.self.under_way records;
       works : Works old disk;
       steady : disk.failures ≡ old.failures;
-      place : IsCompactHand l.self.hand → l.self.place ≡ l.fn.self.place;
+      place : IsCompactionUnderWay l.self.under_way → l.self.place ≡ l.fn.self.place;
       moved : IsIdle l.self → l.self.place ≡ compacted_place l.fn.self.place (length records);
-      most : disk.clock + left_of l.self.hand ≤ old.clock + (519 + length records);
-      at : IsHonest disk → AtNextCall old disk (other_area l.fn.self.place.area) head records l.self.hand;
+      most : disk.clock + left_of l.self.under_way ≤ old.clock + (519 + length records);
+      at : IsHonest disk → AtNextCall old disk (other_area l.fn.self.place.area) head records l.self.under_way;
     }
 
 abbrev pub decreases-loop-self : goal.decreases-loop-self
-decreases-loop-self g l = left_of l.self.hand
+decreases-loop-self g l = left_of l.self.under_way

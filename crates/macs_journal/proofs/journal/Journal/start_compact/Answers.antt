@@ -1,9 +1,9 @@
 use Rattle.std.proofs.Common.{◌≡◌, ◌∙◌, ◌≤◌, ℕ, ap, length, refl, rules}
 use Rattle.macs_record.specs.Heads.{Head}
 use Rattle.macs_journal.specs.Areas.{slots}
-use Rattle.macs_journal.specs.Renewal.{next_head}
+use Rattle.macs_journal.specs.Compacted.{next_head}
 use Rattle.macs_journal.specs.declared.compact_stage.CompactStage.TheVariants.{ReadGate}
-use Rattle.macs_journal.proofs.Anew.{anew-in_hand}
+use Rattle.macs_journal.proofs.CompactionCalls.{compaction-under_way}
 use Rattle.macs_journal.proofs.journal.Journal.start_compact.Goals as goal
 
 pub returns : goal.returns
@@ -20,10 +20,10 @@ returns g c =
       device = search rules;
       place = search rules;
       running = search rules;
-      hand = search (rules, head);
+      under_way = search (rules, head);
       left = (let counts = ap (λ (h : Head). h.count) head in search (rules, counts));
       holds = λ before holds.
-          anew-in_hand _ c.self.inside.place c.self.inside.hand (record { head = c.in-Some.next; stage = ReadGate 0 })
+          compaction-under_way _ c.self.inside.place c.self.inside.under_way (record { head = c.in-Some.next; stage = ReadGate 0 })
           before records
           head refl few (rw (← c.self.view_is) at holds);
     }

@@ -1,7 +1,7 @@
 use Rattle.std.proofs.Common.{◌≡◌, ◌∙◌, false, IsSome, ap, subst}
 use Rattle.macs_config.specs.Apply.{has_wrong_offset}
 use Rattle.macs_config.specs.declared.command.Command.{Command}
-use Rattle.macs_store.specs.Kept.{record_kept}
+use Rattle.macs_store.specs.UnderWay.{record_kept}
 use Rattle.macs_store.specs.Replay.{is_raise, standing_after_record}
 use Rattle.macs_store.specs.Standing.{Standing, standing_with_rx_ceiling, standing_with_tx_ceiling}
 use Rattle.macs_store.specs.Table.{standing_of}

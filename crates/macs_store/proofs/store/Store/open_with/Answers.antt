@@ -7,7 +7,7 @@ use Rattle.macs_store.specs.Replay.{meaning_of}
 use Rattle.macs_store.specs.Standing.{Standing}
 use Rattle.macs_store.specs.Table.{standing_of}
 use Rattle.macs_store.specs.Value.{StoreValue}
-use Rattle.macs_store.specs.Kept.{Empty}
+use Rattle.macs_store.specs.UnderWay.{Nothing}
 use Rattle.macs_store.proofs.Migrating.{not-taken-up, recovered-meaning, recovery-refused, taken-up}
 use Rattle.macs_store.proofs.store.Store.open_with.Given.{Over}
 use Rattle.macs_store.proofs.store.Store.open_with.Goals.{After-read-is_read}
@@ -26,7 +26,7 @@ returns-in_err-found g c =
 module _ (g : Over) (c : After-read-is_read g) where
   -- the store, before it is taken up
   abbrev store : StoreValue g.row.D.Denot
-  store = record { journal = c.in_ok-found.found.journal; held = c.read-is_read.new.self; hand = Empty }
+  store = record { journal = c.in_ok-found.found.journal; held = c.read-is_read.new.self; under_way = Nothing }
 
   abbrev records : List Record
   records = take c.in_ok-found.found.used c.recover_into.new.room

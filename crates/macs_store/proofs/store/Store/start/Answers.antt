@@ -1,7 +1,7 @@
 use Rattle.std.proofs.lemmas.Result.{err_from_is_err_and}
-use Rattle.macs_store.specs.Kept.{change_of, record_kept}
+use Rattle.macs_store.specs.UnderWay.{under_way_of, record_kept}
 use Rattle.macs_store.specs.Value.{IsIdle, StoreValue}
-use Rattle.macs_store.proofs.InHand.{append-refused, append-started, renewal-refused, renewal-started}
+use Rattle.macs_store.proofs.Started.{append-refused, append-started, compaction-refused, compaction-started}
 use Rattle.macs_store.proofs.store.Store.start.Given.{Over}
 use Rattle.macs_store.proofs.store.Store.start.Goals.{After-is_full}
 use Rattle.macs_store.proofs.store.Store.start.Goals as goal
@@ -11,19 +11,19 @@ module _ (g : Over) (c : After-is_full g) where
   old = record {
     journal = c.self.inside.journal;
     held = c.self.inside.standing;
-    hand = change_of c.self.inside.under_way;
+    under_way = under_way_of c.self.inside.under_way;
   }
 
   idle : IsIdle old
   idle = rw (← c.self.view_is) at c.requires.idle
 
-pub returns-in_ok-start_renewal : goal.returns-in_ok-start_renewal
-returns-in_ok-start_renewal g c =
-    let at = (goal.at.returns-in_ok-start_renewal g c).After-is_full in
+pub returns-in_ok-start_compaction : goal.returns-in_ok-start_compaction
+returns-in_ok-start_compaction g c =
+    let at = (goal.at.returns-in_ok-start_compaction g c).After-is_full in
     rw (← c.self.view_is)
-    (renewal-started g.D.SectorDisk.disk (old g at) (idle g at) (record_kept c.args.kept)
+    (compaction-started g.D.SectorDisk.disk (old g at) (idle g at) (record_kept c.args.kept)
     (c.is_full.ensures.full.0 c.if-is_full.true) c.facts.ensures.stands
-    c.start_renewal.new.journal c.in_ok-start_renewal.ensures)
+    c.start_compaction.new.journal c.in_ok-start_compaction.ensures)
 
 pub returns-in_ok-start_append : goal.returns-in_ok-start_append
 returns-in_ok-start_append g c =
@@ -33,15 +33,15 @@ returns-in_ok-start_append g c =
     (c.is_full.ensures.room c.if-is_full.false)
     c.start_append.new.self (rw c.record.ensures at c.in_ok-start_append.ensures))
 
-pub returns-in_err-start_renewal : goal.returns-in_err-start_renewal
-returns-in_err-start_renewal g c =
-    let at = (goal.at.returns-in_err-start_renewal g c).After-is_full in
+pub returns-in_err-start_compaction : goal.returns-in_err-start_compaction
+returns-in_err-start_compaction g c =
+    let at = (goal.at.returns-in_err-start_compaction g c).After-is_full in
     let risen = err_from_is_err_and c.from_residual.result c.from_residual.ensures.1 in
     rw (risen.1, risen.2)
     (rw (← c.self.view_is)
-    (renewal-refused g.D.SectorDisk.disk (old g at) (idle g at) (record_kept c.args.kept)
+    (compaction-refused g.D.SectorDisk.disk (old g at) (idle g at) (record_kept c.args.kept)
     (c.is_full.ensures.full.0 c.if-is_full.true) c.facts.ensures.stands
-    c.in_err-start_renewal.field-0.0 c.start_renewal.new.journal c.in_err-start_renewal.ensures))
+    c.in_err-start_compaction.field-0.0 c.start_compaction.new.journal c.in_err-start_compaction.ensures))
 
 pub returns-in_err-start_append : goal.returns-in_err-start_append
 returns-in_err-start_append g c =

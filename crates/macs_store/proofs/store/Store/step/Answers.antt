@@ -1,5 +1,5 @@
 use Rattle.std.proofs.Common.{ap}
-use Rattle.macs_store.specs.Kept.{change_of}
+use Rattle.macs_store.specs.UnderWay.{under_way_of}
 use Rattle.macs_store.proofs.Turns.{rests}
 use Rattle.macs_store.proofs.store.Store.step.Goals as goal
 
@@ -10,5 +10,5 @@ returns-in-Nothing g c =
       journal = c.self.inside.journal;
       held =
           c.self.inside.standing;
-      hand = change_of c.self.inside.under_way;
-    }) (ap change_of c.in-Nothing.is)))
+      under_way = under_way_of c.self.inside.under_way;
+    }) (ap under_way_of c.in-Nothing.is)))

@@ -4,8 +4,8 @@ use Rattle.macs_journal.specs.declared.work.JournalStep.{JournalStep}
 use Rattle.macs_journal.specs.declared.work.JournalStep.TheVariants.{Finished}
 use Rattle.macs_store.specs.Stepping.{IsAppending, Steps}
 use Rattle.macs_store.specs.Table.{standing_of}
-use Rattle.macs_store.specs.Kept.{Appending, change_of, record_kept}
-use Rattle.macs_store.specs.Value.{FitsChange, StoreValue}
+use Rattle.macs_store.specs.UnderWay.{Appending, under_way_of, record_kept}
+use Rattle.macs_store.specs.Value.{FitsUnderWay, StoreValue}
 use Rattle.macs_store.specs.declared.under_way.UnderWay.{UnderWay}
 use Rattle.macs_store.proofs.Turns.{append-failed, append-finished, append-on, fits-append}
 use Rattle.macs_store.proofs.store.Store.step_append.Given.{Over}
@@ -17,26 +17,26 @@ module _ (g : Over) (c : After-step g) where
   old = record {
     journal = c.self.inside.journal;
     held = c.self.inside.standing;
-    hand = change_of c.self.inside.under_way;
+    under_way = under_way_of c.self.inside.under_way;
   }
 
-  fits : FitsChange c.self.inside.journal (standing_of c.self.inside.standing) (change_of c.self.inside.under_way)
+  fits : FitsUnderWay c.self.inside.journal (standing_of c.self.inside.standing) (under_way_of c.self.inside.under_way)
   fits = c.self.invariant
 
-  is : IsAppending (change_of c.self.inside.under_way)
+  is : IsAppending (under_way_of c.self.inside.under_way)
   is = rw (← c.self.view_is) at c.requires.appending
 
 -- after the last device call
-hand_is : (g : Over) (c : In-Appending g)
-    → change_of c.self.inside.under_way ≡ Appending (record_kept c.in-Appending.kept)
-hand_is g c = ap change_of (sym c.replace.ensures.value ∙ c.in-Appending.is)
+under_way_is : (g : Over) (c : In-Appending g)
+    → under_way_of c.self.inside.under_way ≡ Appending (record_kept c.in-Appending.kept)
+under_way_is g c = ap under_way_of (sym c.replace.ensures.value ∙ c.in-Appending.is)
 
 pub keep-requires : goal.keep-requires
 keep-requires g c =
     let at = goal.at.keep-requires g c in
     record {
       follows = (fits-append g.D.SectorDisk.disk (old g at.After-step) (fits g at.After-step)
-          (record_kept c.in-Appending.kept) (hand_is g at.In-Appending)).1;
+          (record_kept c.in-Appending.kept) (under_way_is g at.In-Appending)).1;
     }
 
 pub returns-in-Appending : goal.returns-in-Appending
@@ -44,11 +44,11 @@ returns-in-Appending g c =
     let paths = goal.at.returns-in-Appending g c in
     let at = paths.After-step in
     let d = g.D.SectorDisk.disk in
-    let is = hand_is g paths.In-Appending in
+    let is = under_way_is g paths.In-Appending in
     let its = fits-append d (old g at) (fits g at) (record_kept c.in-Appending.kept) is in
     rw (← c.self.view_is)
     (subst (λ (u : UnderWay). Steps d (old g at) (Ok Finished)
-    (record { journal = c.step.new.self; held = c.keep.new.self; hand = change_of u })) (sym c.replace.ensures.after)
+    (record { journal = c.step.new.self; held = c.keep.new.self; under_way = under_way_of u })) (sym c.replace.ensures.after)
     (append-finished d (old g at) its.0 (record_kept c.in-Appending.kept) is its.2 [] c.step.new.self c.keep.new.self
     c.keep.ensures
     (subst (λ (step : JournalStep). journal.Steps d c.self.inside.journal [] (Ok step) c.step.new.self) c.in-Finished.is

@@ -1,5 +1,5 @@
 use Rattle.std.proofs.Common.{◌∙◌, ap, sym}
-use Rattle.macs_store.specs.Kept.{record_kept}
+use Rattle.macs_store.specs.UnderWay.{record_kept}
 use Rattle.macs_store.proofs.Keeping.{recorded-is}
 use Rattle.macs_store.proofs.under_way.Kept.record.Goals as goal
 

@@ -1,7 +1,7 @@
 use Rattle.std.proofs.Common.{◌≡◌, ◌∙◌, true, ap, sym}
 use Rattle.macs_texts.specs.declared.program.Program.{Program}
 use Rattle.macs_control.specs.Listening.{is_time, measured_of}
-use Rattle.macs_control.specs.UnderWay.{entries_of, is_full}
+use Rattle.macs_control.specs.Unanswered.{entries_of, is_full}
 use Rattle.macs_control.proofs.Looking.{looks-in-time, measures-in-time, same-measured, same-reports}
 use Rattle.macs_control.proofs.desk.control_desk.ControlDeskDesk.next.Goals as goal
 
@@ -9,7 +9,7 @@ pub returns-clause-talk : goal.returns-clause-talk
 returns-clause-talk g c =
     let time : is_time c.args.was_quiet c.args.self.now.turns_left ≡ true =
     sym c.is_time.ensures ∙ c.if-not-is_time.false in
-    looks-in-time _ c.args.was_quiet (is_full (entries_of c.args.self.now.under_way)) c.is_full.result _ _ _ _ _
+    looks-in-time _ c.args.was_quiet (is_full (entries_of c.args.self.now.unanswered)) c.is_full.result _ _ _ _ _
     (g.C.Clients.talk c.args.self.now.clients) (g.C.Clients.talk c.rest.new.clients)
     (g.C.Clients.talk c.look-order.new.clients) time c.is_full.ensures.full
     (same-reports c.note_good.new.program (g.S.Overruns.known c.args.self.now.system)

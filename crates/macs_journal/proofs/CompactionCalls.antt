@@ -8,14 +8,14 @@ use Rattle.macs_record.specs.declared.record.Record.{Record}
 use Rattle.macs_journal.specs.Appending.{HasEitherJournal}
 use Rattle.macs_journal.specs.Areas.{other_area, slots}
 use Rattle.macs_journal.specs.Found.{Content}
-use Rattle.macs_journal.specs.Renewal.{compacted, next_head}
+use Rattle.macs_journal.specs.Compacted.{compacted, next_head}
 use Rattle.macs_journal.specs.Stages.{AtNextStage, AtStage, IsCompactNext, IsCompactStage, IsUnderWay}
-use Rattle.macs_journal.specs.Value.{HoldsHand, HoldsWith, IsCompacting, IsHolding, IsMadeOf}
+use Rattle.macs_journal.specs.Value.{HoldsUnderWay, HoldsWith, IsCompacting, IsHolding, IsMadeOf}
 use Rattle.macs_journal.specs.declared.compact_stage.CompactStage.{CompactStage}
 use Rattle.macs_journal.specs.declared.compact_stage.CompactStage.TheVariants.{ReadGate}
-use Rattle.macs_journal.specs.declared.hand.Compacting.{Compacting}
-use Rattle.macs_journal.specs.declared.hand.Hand.{Hand}
-use Rattle.macs_journal.specs.declared.hand.Hand.TheVariants.{Compact, Empty}
+use Rattle.macs_journal.specs.declared.under_way.Compacting.{Compacting}
+use Rattle.macs_journal.specs.declared.under_way.UnderWay.{UnderWay}
+use Rattle.macs_journal.specs.declared.under_way.UnderWay.TheVariants.{Compact, Nothing}
 use Rattle.macs_journal.specs.declared.place.Place.{Place}
 use Rattle.macs_journal.proofs.GateCalls.{none-closed}
 use Rattle.macs_journal.proofs.Holding.{idle-ready}
@@ -31,31 +31,31 @@ same-records : (before after : Content) (records others : List Record) → after
 same-records before after records others is other_is = ap (λ (c : Content). c.records) (sym is ∙ other_is)
 
 -- a compaction under way, with the records that are lent
-compacting : (old : Disk) (place : Place) (hand : Hand) (work : Compacting) (records : List Record)
-    (before after : Content) → hand ≡ Compact work
-    → HoldsWith old place hand records before after → IsCompacting old work before after
-compacting old place hand work records before after hand_is holding =
-    subst (λ (h : Hand). HoldsHand old h before after) hand_is holding.holds.holds
+compacting : (old : Disk) (place : Place) (under_way : UnderWay) (work : Compacting) (records : List Record)
+    (before after : Content) → under_way ≡ Compact work
+    → HoldsWith old place under_way records before after → IsCompacting old work before after
+compacting old place under_way work records before after under_way_is holding =
+    subst (λ (h : UnderWay). HoldsUnderWay old h before after) under_way_is holding.holds.holds
 
-made-of : (old : Disk) (place : Place) (hand : Hand) (work : Compacting) (records : List Record)
-    (before after : Content) → hand ≡ Compact work
-    → HoldsWith old place hand records before after → after ≡ compacted before records
-made-of old place hand work records before after hand_is holding =
-    subst (λ (h : Hand). IsMadeOf h records before after) hand_is holding.made
+made-of : (old : Disk) (place : Place) (under_way : UnderWay) (work : Compacting) (records : List Record)
+    (before after : Content) → under_way ≡ Compact work
+    → HoldsWith old place under_way records before after → after ≡ compacted before records
+made-of old place under_way work records before after under_way_is holding =
+    subst (λ (h : UnderWay). IsMadeOf h records before after) under_way_is holding.made
 
-module _ (old : Disk) (place : Place) (hand : Hand) (work : Compacting) (records : List Record) (before after : Content)
-    (hand_is : hand ≡ Compact work)
-    (holding : HoldsWith old place hand records before after) (area : ℕ) (area_is : area ≡ other_area place.area) where
+module _ (old : Disk) (place : Place) (under_way : UnderWay) (work : Compacting) (records : List Record) (before after : Content)
+    (under_way_is : under_way ≡ Compact work)
+    (holding : HoldsWith old place under_way records before after) (area : ℕ) (area_is : area ≡ other_area place.area) where
   the-area : other_area before.area ≡ area
   the-area = ap other_area holding.holds.at.area ∙ sym area_is
 
   -- what was begun, with the records that are lent
   begun : IsCompacting old work before after
-  begun = compacting old place hand work records before after hand_is holding
+  begun = compacting old place under_way work records before after under_way_is holding
 
   the-records : begun.records ≡ records
   the-records = same-records before after begun.records records begun.becomes
-      (made-of old place hand work records before after hand_is holding)
+      (made-of old place under_way work records before after under_way_is holding)
 
   at-call : AtStage begun.began old area work.head records work.stage
   at-call =
@@ -72,14 +72,14 @@ module _ (old : Disk) (place : Place) (hand : Hand) (work : Compacting) (records
   stage-fits = subst (λ (rs : List Record). IsCompactStage (length rs) work.stage) the-records begun.fits
 
   becomes : after ≡ compacted before records
-  becomes = made-of old place hand work records before after hand_is holding
+  becomes = made-of old place under_way work records before after under_way_is holding
 
   -- whatever it answered
-  pub anew-leaves : (new : Disk) → Works old new
+  pub compaction-leaves : (new : Disk) → Works old new
       → ((began : Disk) → AtStage began old area work.head records work.stage
       → IsUnderWay began new area work.head records)
       → Leaves old new (HasEitherJournal before after)
-  anew-leaves new works promised =
+  compaction-leaves new works promised =
       let was = way-leaves begun.began old area work.head records few-records before begun.ready the-area head-next
       (at-under_way begun.began old area work.head records work.stage stage-fits at-call) in
       let is = way-leaves begun.began new area work.head records few-records before begun.ready the-area head-next
@@ -98,9 +98,9 @@ module _ (old : Disk) (place : Place) (hand : Hand) (work : Compacting) (records
         (promised begun.began at-call)
 
     -- it goes on
-    pub anew-next : (later : CompactStage) → next ≡ Some later → IsCompactNext (length records) next
+    pub compaction-next : (later : CompactStage) → next ≡ Some later → IsCompactNext (length records) next
         → IsHolding new place (Compact (record work { stage = later })) before after
-    anew-next later next_is room = record {
+    compaction-next later next_is room = record {
       at = holding.holds.at;
       holds = record {
         began = begun.began;
@@ -116,27 +116,27 @@ module _ (old : Disk) (place : Place) (hand : Hand) (work : Compacting) (records
     }
 
     -- it is done
-    pub anew-done : next ≡ None → IsHolding new (new_place area work) Empty after after
-    anew-done next_is =
+    pub compaction-done : next ≡ None → IsHolding new (new_place area work) Nothing after after
+    compaction-done next_is =
         let ready = way-ready begun.began new area work.head records few-records before begun.ready the-area head-next
         (comes None next_is) in
-        subst (λ (c : Content). IsHolding new (new_place area work) Empty c c) (sym becomes)
+        subst (λ (c : Content). IsHolding new (new_place area work) Nothing c c) (sym becomes)
         (record {
           at = record { area = the-area; head = head-next; free = ap (λ (h : Head). h.count) head-next };
           holds = (ready, refl);
         })
 
 -- records come into hand
-pub anew-in_hand : (d : Disk) (place : Place) (hand : Hand) (work : Compacting) (c : Content) (records : List Record)
+pub compaction-under_way : (d : Disk) (place : Place) (under_way : UnderWay) (work : Compacting) (c : Content) (records : List Record)
     → work.head ≡ next_head place.head (length records) → work.stage ≡ ReadGate 0 → length records ≤ slots
-    → IsHolding d place hand c c
+    → IsHolding d place under_way c c
     → IsHolding d place (Compact work) c (compacted c records)
-anew-in_hand d place hand work c records head_is stage few holding = record {
+compaction-under_way d place under_way work c records head_is stage few holding = record {
   at = holding.at;
   holds = record {
     began = d;
     records = records;
-    ready = idle-ready d place hand c holding;
+    ready = idle-ready d place under_way c holding;
     becomes = refl;
     next = ap (λ (h : Head). next_head h (length records)) holding.at.head ∙ sym head_is;
     few = few;

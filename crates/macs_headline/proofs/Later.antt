@@ -1,4 +1,4 @@
--- What is found while a journal starts over, and what it stands for.
+-- What is found during a compaction, and what it stands for.
 use Rattle.std.proofs.Common.{◌≡◌, ◌≤◌, ◌<◌, ◌+◌, ℕ, zero, suc, List, [], ◌∷◌, ◌++◌, length, take, drop, replicate}
 use Rattle.std.proofs.Common.{Option, Some, None, refl, sym, ◌∙◌, ap, subst, arith, append-nil, append_assoc, take_all}
 use Rattle.std.proofs.Common.{true}
@@ -48,14 +48,14 @@ module _ (image : Image) (c : Content) (finds : HasJournal image c) (area : ℕ)
       (λ opens. absurd (closed
       (subst IsOpen (area-other image area head records (gate area 0) (omega arith) (λ j lt. omega arith)) opens))))
 
--- and after it what starts over is
-pub anew-found : (image : Image) (c : Content) (finds : HasJournal image c) (area : ℕ) → other_area c.area ≡ area
+-- and after it the compacted journal is
+pub later-found : (image : Image) (c : Content) (finds : HasJournal image c) (area : ℕ) → other_area c.area ≡ area
     → (records : List Record)
     → IsHead (next_head c.head (length records)) → length records ≤ slots → AllByRecursion IsRecord records
     → ((k : ℕ) → k ≤ slots → ¬ IsGateOpen image area k)
     → HasJournal (image_with_open_head (image_with_area image area (next_head c.head (length records)) records) area)
     (record { area = area; head = next_head c.head (length records); records = records })
-anew-found image c finds area area_is records is_head few are closed =
+later-found image c finds area area_is records is_head few are closed =
     let within = finds.stands.area in
     let head = next_head c.head (length records) in
     let new = image_with_open_head (image_with_area image area head records) area in
@@ -104,10 +104,10 @@ same-again zero r s is = refl
 same-again (suc n) r s is =
     ap (option_and_then (λ (next : Standing). standing_after_records next (replicate n r))) is ∙ same-again n r s is
 
--- a journal that starts over stands for what its snapshot does
-pub meaning-anew : (edition : Edition) (c : Content) (records : List Record) (s : Standing) → edition.format_two ≡ true
+-- a compacted journal stands for what its snapshot does
+pub meaning-later : (edition : Edition) (c : Content) (records : List Record) (s : Standing) → edition.format_two ≡ true
     → snapshot_of edition c.head.identity records ≡ Some s → meaning_of edition (compacted c records) ≡ Some s
-meaning-anew edition c records s takes_two is =
+meaning-later edition c records s takes_two is =
     let n = length records in
     let all : take n records ≡ records = take_all n records (omega arith) in
     let none : drop n records ≡ [] = drop_all n records (omega arith) in

@@ -23,10 +23,10 @@ use Rattle.macs_endpoint.specs.declared.progress.Step.TheVariants.{Done, Worked}
 use Rattle.macs_endpoint.specs.declared.queue.Waiting.{Waiting}
 use Rattle.macs_endpoint.specs.State.{Advanced, AdvancedLong, Advances, Call, Commands, Protected, Protects, Ran}
 use Rattle.macs_endpoint.specs.State.{Received, Receives, Refilled, Refills, RefusedLong, Reply, State, Submits}
-use Rattle.macs_endpoint.specs.State.{Submitted, state_with_in_hand}
+use Rattle.macs_endpoint.specs.State.{Submitted, state_with_under_way}
 use Rattle.macs_endpoint.specs.Step.{AdvanceStep, CommandStep, Ends, Exchange, ProtectStep, ReceiveStep, RefillStep}
 use Rattle.macs_endpoint.specs.Step.{RunningStep, Step, Steps, SubmitStep, TakesUp}
-use Rattle.macs_headline.specs.CommandInHand.{InHandWasBegun, MayBegin, WasBegun}
+use Rattle.macs_headline.specs.CommandUnderWay.{UnderWayWasBegun, MayBegin, WasBegun}
 use Rattle.macs_headline.specs.Commands.{waiting_at_end}
 use Rattle.macs_headline.specs.History.{logs_of, state_at_end}
 use Rattle.macs_headline.specs.Refused.{refusal_at}
@@ -41,23 +41,23 @@ none_some c is = cc
 
 -- no reason holds to refuse what is under way
 abbrev IsAccepted : State → Type 0
-IsAccepted s = (c : Command) → s.in_hand ≡ Some c → refusal_at s c ≡ None
+IsAccepted s = (c : Command) → s.under_way ≡ Some c → refusal_at s c ≡ None
 
-none_in_hand : (s : State) → s.in_hand ≡ None → IsAccepted s
-none_in_hand s none c hand = absurd (none_some c (sym none ∙ hand))
+none_under_way : (s : State) → s.under_way ≡ None → IsAccepted s
+none_under_way s none c hand = absurd (none_some c (sym none ∙ hand))
 
-one_in_hand : (old : State) (c : Command) → refusal_at old c ≡ None → IsAccepted (state_with_in_hand old c)
-one_in_hand old c why d hand = subst (λ (c : Command). refusal_at old c ≡ None) (some_one (Some c) c d refl hand) why
+one_under_way : (old : State) (c : Command) → refusal_at old c ≡ None → IsAccepted (state_with_under_way old c)
+one_under_way old c why d hand = subst (λ (c : Command). refusal_at old c ≡ None) (some_one (Some c) c d refl hand) why
 
 same_state : (old new : State) → new ≡ old → IsAccepted old → IsAccepted new
 same_state old new is was = subst (λ (s : State). IsAccepted s) (sym is) was
 
 by_command : (old : State) (c : Command) (result : Result (Unit {0}) CommandFault) (new : State)
     → CommandStep old c result new → IsAccepted old → IsAccepted new
-by_command old c (Ok done) new (none, makes) was = none_in_hand new (ap (λ (s : State). s.in_hand) makes.2)
+by_command old c (Ok done) new (none, makes) was = none_under_way new (ap (λ (s : State). s.under_way) makes.2)
 by_command old c (Err ran.Stopped) new h was = absurd h
 by_command old c (Err ran.Disk) new (none, accepts, is) was = subst (λ (s : State). IsAccepted s) (sym is)
-    (one_in_hand old c (no-refusal old.edition old.identity old.config c accepts))
+    (one_under_way old c (no-refusal old.edition old.identity old.config c accepts))
 by_command old c (Err ran.Busy) new (some, is) was = same_state old new is was
 by_command old c (Err (ran.Refused refusal)) new (none, why, is) was = same_state old new is was
 by_command old c (Err ran.GenerationsSpent) new (none, accepts, is) was = same_state old new is was
@@ -79,16 +79,16 @@ by_submit old c (Err submit.Stopped) new h was = absurd h
 
 taken_up : (old new : State) → TakesUp old new → IsAccepted new
 taken_up old new (first, rest, waiting, idle, accepts, is) = subst (λ (s : State). IsAccepted s) (sym is)
-    (one_in_hand old first.command (no-refusal old.edition old.identity old.config first.command accepts))
+    (one_under_way old first.command (no-refusal old.edition old.identity old.config first.command accepts))
 
 by_end : (old : State) (first : Waiting) (rest : List Waiting) (result : Result (Unit {0}) CommandFault) (new : State)
     → Ends old first rest result new
     → IsAccepted new
-by_end old first rest (Ok done) new makes = none_in_hand new (ap (λ (s : State). s.in_hand) makes.2)
+by_end old first rest (Ok done) new makes = none_under_way new (ap (λ (s : State). s.under_way) makes.2)
 by_end old first rest (Err (ran.Refused refusal)) new (idle, why, is) =
-    none_in_hand new (ap (λ (s : State). s.in_hand) is)
+    none_under_way new (ap (λ (s : State). s.under_way) is)
 by_end old first rest (Err ran.GenerationsSpent) new (idle, accepts, is) =
-    none_in_hand new (ap (λ (s : State). s.in_hand) is)
+    none_under_way new (ap (λ (s : State). s.under_way) is)
 by_end old first rest (Err fault) new h = absurd h
 
 by_advance : (old : State) (result : Result Progress StepFault) (new : State) → AdvanceStep old result new
@@ -131,7 +131,7 @@ by_call old (Protects plain) (Protected result out) new h was = by_protect old p
 by_call old (Receives frame) (Received result out) new h was = by_receive old frame result out new h was
 by_call old (Commands c) RefusedLong new (none, why, is) was = same_state old new is was
 by_call old Advances (AdvancedLong ticket) new (first, rest, waiting, is_ticket, (idle, why, is)) was =
-    none_in_hand new (ap (λ (s : State). s.in_hand) is)
+    none_under_way new (ap (λ (s : State). s.under_way) is)
 by_call old call reply new h was = absurd h
 
 by_step : (old : State) (call : Call) (reply : Reply) (new : State) → Step old call reply new → IsAccepted old
@@ -158,17 +158,17 @@ not_left false y is = refl
 module _ (exchanges : List Exchange) (s : State) (waits : s.waiting ≡ waiting_at_end exchanges)
     (accepted : IsAccepted s) where
   -- under way after the last answer
-  by_answers : (cut : Option Call) (c : Command) → s.in_hand ≡ Some c → WasBegun exchanges s cut c
+  by_answers : (cut : Option Call) (c : Command) → s.under_way ≡ Some c → WasBegun exchanges s cut c
   by_answers cut c is = record { begun = inl is; accepted = accepted c is }
 
   -- or taken in the call that is cut short
-  either_hand : (test : Bool) (d c : Command) → (cond test (state_with_in_hand s d) s).in_hand ≡ Some c
-      → (s.in_hand ≡ Some c) ⊎ ((test ≡ true) × (d ≡ c))
+  either_hand : (test : Bool) (d c : Command) → (cond test (state_with_under_way s d) s).under_way ≡ Some c
+      → (s.under_way ≡ Some c) ⊎ ((test ≡ true) × (d ≡ c))
   either_hand true d c is = inr (refl, some_one (Some d) d c refl is)
   either_hand false d c is = inl is
 
   taken : (cut : Option Call) (d c : Command) → MayBegin cut (waiting_at_end exchanges) d
-      → (cond (not s.stopped && is_ok (apply s.edition s.identity s.config d)) (state_with_in_hand s d) s).in_hand
+      → (cond (not s.stopped && is_ok (apply s.edition s.identity s.config d)) (state_with_under_way s d) s).under_way
       ≡ Some c → WasBegun exchanges s cut c
   taken cut d c may is = elim (either_hand (not s.stopped && is_ok (apply s.edition s.identity s.config d)) d c is) [
     | inl hand ↦ by_answers cut c hand
@@ -180,32 +180,32 @@ module _ (exchanges : List Exchange) (s : State) (waits : s.waiting ≡ waiting_
   ]
 
   alone : (d : Command) (waiting : List Waiting) (c : Command) → s.waiting ≡ waiting
-      → (state_taking_alone s d waiting).in_hand ≡ Some c
+      → (state_taking_alone s d waiting).under_way ≡ Some c
       → WasBegun exchanges s (Some (Commands d)) c
   alone d [] c none is =
       taken (Some (Commands d)) d c
       (subst (λ (waiting : List Waiting). MayBegin (Some (Commands d)) waiting d) (sym none ∙ waits) refl) is
   alone d (first ∷ rest) c some is = by_answers (Some (Commands d)) c is
 
-  first_one : (in_hand : Option Command) (waiting : List Waiting) (c : Command) → s.waiting ≡ waiting
-      → (state_taking_first s in_hand waiting).in_hand ≡ Some c
+  first_one : (under_way : Option Command) (waiting : List Waiting) (c : Command) → s.waiting ≡ waiting
+      → (state_taking_first s under_way waiting).under_way ≡ Some c
       → WasBegun exchanges s (Some Advances) c
   first_one None [] c none is = by_answers (Some Advances) c is
   first_one None (first ∷ rest) c waiting is =
       taken (Some Advances) first.command c (sym (ap first_command waits) ∙ ap first_command waiting) is
   first_one (Some d) waiting c some is = by_answers (Some Advances) c is
 
-  at_end : (cut : Option Call) (c : Command) → (state_at_end s cut).in_hand ≡ Some c → WasBegun exchanges s cut c
+  at_end : (cut : Option Call) (c : Command) → (state_at_end s cut).under_way ≡ Some c → WasBegun exchanges s cut c
   at_end None c is = by_answers None c is
   at_end (Some (Commands d)) c is = alone d s.waiting c refl is
   at_end (Some Refills) c is = by_answers (Some Refills) c is
   at_end (Some (Submits d)) c is = by_answers (Some (Submits d)) c is
-  at_end (Some Advances) c is = first_one s.in_hand s.waiting c refl is
+  at_end (Some Advances) c is = first_one s.under_way s.waiting c refl is
   at_end (Some (Protects plain)) c is = by_answers (Some (Protects plain)) c is
   at_end (Some (Receives frame)) c is = by_answers (Some (Receives frame)) c is
 
-pub in-hand-was-begun : (sectors : ℕ) → InHandWasBegun sectors
-in-hand-was-begun sectors last m cut command is =
+pub under-way-was-begun : (sectors : ℕ) → UnderWayWasBegun sectors
+under-way-was-begun sectors last m cut command is =
     let begun = opened_state m.life.found (logs_of m.past) in
     at_end m.exchanges last (waits-from [] begun m.exchanges last refl m.life.steps)
-    (by_steps begun m.exchanges last m.life.steps (none_in_hand begun refl)) cut command is
+    (by_steps begun m.exchanges last m.life.steps (none_under_way begun refl)) cut command is

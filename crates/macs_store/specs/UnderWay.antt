@@ -14,13 +14,13 @@ record_kept (kept.TxCeiling an ceiling) = record_.TxCeiling an ceiling
 record_kept (kept.RxCeiling sci an ceiling) = record_.RxCeiling sci an ceiling
 
 -- nothing, a record that waits until the journal is rewritten with a snapshot, or one that the journal takes
-pub data Change : Type 0 where
-  Empty : Change
-  Renewing : Record → Change
-  Appending : Record → Change
+pub data UnderWay : Type 0 where
+  Nothing : UnderWay
+  Compacting : Record → UnderWay
+  Appending : Record → UnderWay
 
 -- what the program has under way, with its record
-abbrev pub change_of : declared.UnderWay → Change
-change_of variant.Nothing = Empty
-change_of (variant.Compacting k) = Renewing (record_kept k)
-change_of (variant.Appending k) = Appending (record_kept k)
+abbrev pub under_way_of : declared.UnderWay → UnderWay
+under_way_of variant.Nothing = Nothing
+under_way_of (variant.Compacting k) = Compacting (record_kept k)
+under_way_of (variant.Appending k) = Appending (record_kept k)

@@ -20,10 +20,10 @@ MayBegin cut waiting command = ⊥
 -- A command was under way after the last answer, or work on it may have begun in the interrupted call, of an endpoint
 -- that is not stopped; and there is no reason to refuse it.
 pub record WasBegun (exchanges : List Exchange) (last : State) (cut : Option Call) (command : Command) : Type 0 where
-  pub begun : (last.in_hand ≡ Some command) ⊎ ((last.stopped ≡ false) × MayBegin cut (waiting_at_end exchanges) command)
+  pub begun : (last.under_way ≡ Some command) ⊎ ((last.stopped ≡ false) × MayBegin cut (waiting_at_end exchanges) command)
   pub accepted : refusal_at last command ≡ None
 
 -- this holds of what is under way at any moment at which a life ends, inside a call or not
-abbrev pub InHandWasBegun : ℕ → Type 0
-InHandWasBegun sectors = (last : State) (m : Moment sectors last) (cut : Option Call) (command : Command)
-    → (state_at_end last cut).in_hand ≡ Some command → WasBegun m.exchanges last cut command
+abbrev pub UnderWayWasBegun : ℕ → Type 0
+UnderWayWasBegun sectors = (last : State) (m : Moment sectors last) (cut : Option Call) (command : Command)
+    → (state_at_end last cut).under_way ≡ Some command → WasBegun m.exchanges last cut command

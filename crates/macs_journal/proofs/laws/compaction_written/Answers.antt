@@ -1,4 +1,4 @@
-use Rattle.macs_journal.proofs.laws.written_anew.Goals as goal
+use Rattle.macs_journal.proofs.laws.compaction_written.Goals as goal
 
 pub returns-clause-calls : goal.returns-clause-calls
 returns-clause-calls g c = λ old new records opened is honest counted. is.calls honest opened counted

@@ -6,23 +6,23 @@ use Rattle.macs_config.specs.Config.{this_edition}
 use Rattle.macs_disk.specs.Disk.{Disk}
 use Rattle.macs_journal.specs.Areas.{slots}
 use Rattle.macs_journal.specs.Found.{content_with_record}
-use Rattle.macs_journal.specs.Renewal.{compacted}
+use Rattle.macs_journal.specs.Compacted.{compacted}
 use Rattle.macs_journal.specs.Stepping as journal
-use Rattle.macs_journal.specs.Stepping.{Appends, IsAppendHand, IsTaskInHand, Renews}
+use Rattle.macs_journal.specs.Stepping.{Appends, IsAppendUnderWay, IsTaskUnderWay, Compaction}
 use Rattle.macs_journal.specs.Value.{JournalValue}
 use Rattle.macs_journal.specs.declared.fault.JournalFault.{JournalFault}
-use Rattle.macs_journal.specs.declared.hand.Hand as journal_hand
-use Rattle.macs_journal.specs.declared.hand.Hand.TheVariants as journal_work
+use Rattle.macs_journal.specs.declared.under_way.UnderWay as journal_under_way
+use Rattle.macs_journal.specs.declared.under_way.UnderWay.TheVariants as journal_work
 use Rattle.macs_journal.specs.declared.place.Place.{Place}
-use Rattle.macs_journal.proofs.Tasks.{append-with, renewal-with}
+use Rattle.macs_journal.proofs.Tasks.{append-with, compaction-with}
 use Rattle.macs_record.specs.declared.record.Record.{Record}
 use Rattle.macs_store.specs.Keeps.{IsSpent, generation_after, most_calls, slots_after}
 use Rattle.macs_store.specs.Replay.{snapshot_of, standing_after_record}
 use Rattle.macs_store.specs.Snapshot.{snapshot}
 use Rattle.macs_store.specs.Standing.{Standing}
-use Rattle.macs_store.specs.Stepping.{HasInHand, StartsRecord}
+use Rattle.macs_store.specs.Stepping.{HasUnderWay, StartsRecord}
 use Rattle.macs_store.specs.Value.{IsIdle, IsStored, StoreValue, generation, snapshot_length, standing_in, used_slots}
-use Rattle.macs_store.specs.Kept.{Appending, Renewing}
+use Rattle.macs_store.specs.UnderWay.{Appending, Compacting}
 use Rattle.macs_store.proofs.Compacting.{meaning-compacted}
 use Rattle.macs_store.proofs.Keeping.{held-within, idle-holds, standing-with}
 
@@ -58,9 +58,9 @@ module _ {D : Type 0} (s : StoreValue D) (room : used_slots s < slots) where
 
 -- ---- what the journal has under way
 
-pub task-appends : {D : Type 0} (j : JournalValue D) (r : Record) (hand : journal_hand.Hand)
-    → IsTaskInHand j (Appends r) hand → IsAppendHand hand
-task-appends j r journal_work.Empty is = absurd is
+pub task-appends : {D : Type 0} (j : JournalValue D) (r : Record) (under_way : journal_under_way.UnderWay)
+    → IsTaskUnderWay j (Appends r) under_way → IsAppendUnderWay under_way
+task-appends j r journal_work.Nothing is = absurd is
 task-appends j r (journal_work.Append work) is = tt
 task-appends j r (journal_work.Compact work) is = absurd is
 
@@ -74,10 +74,10 @@ refused at = Err at
 module _ {D : Type 0} (disk_of : D → Disk) (s : StoreValue D) (idle : IsIdle s) (r : Record) where
   -- the store with this journal and this work
   abbrev with_append : JournalValue D → StoreValue D
-  with_append j = record { journal = j; held = s.held; hand = Appending r }
+  with_append j = record { journal = j; held = s.held; under_way = Appending r }
 
-  abbrev with_renewal : JournalValue D → StoreValue D
-  with_renewal j = record { journal = j; held = s.held; hand = Renewing r }
+  abbrev with_compaction : JournalValue D → StoreValue D
+  with_compaction j = record { journal = j; held = s.held; under_way = Compacting r }
 
   module _ (room : used_slots s < slots) where
     append-stored : (j : JournalValue D) → journal.Starts disk_of s.journal (Appends r) taken j → IsStored disk_of s
@@ -87,9 +87,9 @@ module _ {D : Type 0} (disk_of : D → Disk) (s : StoreValue D) (idle : IsIdle s
         record {
           content = stored.content;
           next = content_with_record stored.content r;
-          holding = append-with (disk_of j.disk) j.place j.hand (snapshot (standing_in s)) stored.content
+          holding = append-with (disk_of j.disk) j.place j.under_way (snapshot (standing_in s)) stored.content
               (content_with_record stored.content r)
-              (task-appends s.journal r j.hand starts.hand) (starts.holds stored.content holds);
+              (task-appends s.journal r j.under_way starts.under_way) (starts.holds stored.content holds);
           stands = stored.stands;
           becomes = standing-with this_edition stored.content r (standing_in s)
               (held-within disk_of s.journal stored.content holds) stored.form stored.stands;
@@ -98,9 +98,9 @@ module _ {D : Type 0} (disk_of : D → Disk) (s : StoreValue D) (idle : IsIdle s
           form_next = stored.form;
         }
 
-    append-in_hand : (j : JournalValue D) (after : Standing) → journal.Starts disk_of s.journal (Appends r) taken j
-        → standing_after_record (standing_in s) r ≡ Some after → HasInHand disk_of s after (with_append j)
-    append-in_hand j after starts follows = record {
+    append-under_way : (j : JournalValue D) (after : Standing) → journal.Starts disk_of s.journal (Appends r) taken j
+        → standing_after_record (standing_in s) r ≡ Some after → HasUnderWay disk_of s after (with_append j)
+    append-under_way j after starts follows = record {
       running = starts.running;
       device = starts.device;
       standing = refl;
@@ -123,7 +123,7 @@ module _ {D : Type 0} (disk_of : D → Disk) (s : StoreValue D) (idle : IsIdle s
       spent = (λ same. absurd cc, λ spent. absurd (not-full spent));
       names = tt;
       same = tt;
-      in_hand = λ after follows. append-in_hand j after starts follows;
+      under_way = λ after follows. append-under_way j after starts follows;
     }
 
     -- or is not, since the store is stopped
@@ -135,7 +135,7 @@ module _ {D : Type 0} (disk_of : D → Disk) (s : StoreValue D) (idle : IsIdle s
       spent = (λ same. absurd ((starts.spent.0 same).1), λ spent. absurd (not-full spent));
       names = starts.names;
       same = ap (λ (j : JournalValue D). record s { journal = j }) starts.same;
-      in_hand = tt;
+      under_way = tt;
     }
 
   module _ (full : used_slots s ≡ slots) (stands : snapshot_of this_edition (standing_in s).identity
@@ -143,15 +143,15 @@ module _ {D : Type 0} (disk_of : D → Disk) (s : StoreValue D) (idle : IsIdle s
     abbrev records : List Record
     records = snapshot (standing_in s)
 
-    renewal-stored : (j : JournalValue D) → journal.Starts disk_of s.journal (Renews records) taken j
-        → IsStored disk_of s → IsStored disk_of (with_renewal j)
-    renewal-stored j starts stored =
+    compaction-stored : (j : JournalValue D) → journal.Starts disk_of s.journal (Compaction records) taken j
+        → IsStored disk_of s → IsStored disk_of (with_compaction j)
+    compaction-stored j starts stored =
         let holds = idle-holds disk_of s stored idle in
         record {
           content = stored.content;
           next = compacted stored.content records;
           holding =
-              renewal-with (disk_of j.disk) j.place j.hand records stored.content (starts.holds stored.content holds);
+              compaction-with (disk_of j.disk) j.place j.under_way records stored.content (starts.holds stored.content holds);
           stands = stored.stands;
           becomes = meaning-compacted this_edition stored.content (standing_in s) records refl stored.stands stands;
           leads = tt;
@@ -159,10 +159,10 @@ module _ {D : Type 0} (disk_of : D → Disk) (s : StoreValue D) (idle : IsIdle s
           form_next = refl;
         }
 
-    renewal-in_hand : (j : JournalValue D) (after : Standing)
-        → journal.Starts disk_of s.journal (Renews records) taken j
-        → standing_after_record (standing_in s) r ≡ Some after → HasInHand disk_of s after (with_renewal j)
-    renewal-in_hand j after starts follows = record {
+    compaction-under_way : (j : JournalValue D) (after : Standing)
+        → journal.Starts disk_of s.journal (Compaction records) taken j
+        → standing_after_record (standing_in s) r ≡ Some after → HasUnderWay disk_of s after (with_compaction j)
+    compaction-under_way j after starts follows = record {
       running = starts.running;
       device = starts.device;
       standing = refl;
@@ -171,25 +171,25 @@ module _ {D : Type 0} (disk_of : D → Disk) (s : StoreValue D) (idle : IsIdle s
       slots = sym (full-slots s full);
       generation = ap (λ (p : Place). p.head.generation + 1) starts.place ∙ sym (full-generation s full);
       left = let calls = starts.left in let most = full-calls s full in omega (arith, calls, most);
-      stored = renewal-stored j starts;
+      stored = compaction-stored j starts;
     }
 
     -- the compaction is under way, where all slots are used
-    pub renewal-started : (j : JournalValue D) → journal.Starts disk_of s.journal (Renews records) taken j
-        → StartsRecord disk_of s r taken (with_renewal j)
-    renewal-started j starts = record {
+    pub compaction-started : (j : JournalValue D) → journal.Starts disk_of s.journal (Compaction records) taken j
+        → StartsRecord disk_of s r taken (with_compaction j)
+    compaction-started j starts = record {
       stopped = (λ same. starts.stopped.0 same, λ is. starts.stopped.1 is);
       spent = (λ same. absurd cc, λ spent. absurd (let is = starts.spent.1 (spent.0, spent.2) in cc));
       names = tt;
       same = tt;
-      in_hand = λ after follows. renewal-in_hand j after starts follows;
+      under_way = λ after follows. compaction-under_way j after starts follows;
     }
 
     -- or is not
-    pub renewal-refused : (at : JournalFault) (j : JournalValue D)
-        → journal.Starts disk_of s.journal (Renews records) (refused at) j
+    pub compaction-refused : (at : JournalFault) (j : JournalValue D)
+        → journal.Starts disk_of s.journal (Compaction records) (refused at) j
         → StartsRecord disk_of s r (refused at) (record s { journal = j })
-    renewal-refused at j starts = record {
+    compaction-refused at j starts = record {
       stopped = (λ same. starts.stopped.0 same, λ is. starts.stopped.1 is);
       spent = (
         λ same. let both = starts.spent.0 same in
@@ -198,5 +198,5 @@ module _ {D : Type 0} (disk_of : D → Disk) (s : StoreValue D) (idle : IsIdle s
       );
       names = starts.names;
       same = ap (λ (j : JournalValue D). record s { journal = j }) starts.same;
-      in_hand = tt;
+      under_way = tt;
     }

@@ -1,38 +1,37 @@
-//! The commands under way, and the clients that gave them.
+//! The commands that clients submitted and that are not answered yet.
 
 ghost use Rattle.std.specs.Prelude.{◌≡◌, ◌≤◌, [], length};
-ghost use Rattle.macs_control.specs.UnderWay.{client_of, entries_of, is_full, joined, without};
+ghost use Rattle.macs_control.specs.Unanswered.{client_of, entries_of, is_full, joined, without};
 
 use arrayvec::ArrayVec;
 use macs_commands::requests::Client;
+use macs_endpoint::QUEUE;
 
-/// How many commands may be under way.
-pub const MOST_UNDER_WAY: usize = 16;
-
-/// A command under way: its ticket, from 1 on, and the client that gave it.
+/// A submitted command that is not answered yet: its ticket, from 1 on, and the client that gave
+/// it.
 #[derive(Clone, Copy, Debug, Default, PartialEq, Eq)]
-pub struct UnderWay {
+pub struct Submitted {
     pub ticket: u64,
     pub client: Client,
 }
 
-/// The commands under way, earliest first.
+/// The unanswered commands, earliest first.
 #[derive(Drop)]
-pub struct Queue {
-    entries: ArrayVec<UnderWay, MOST_UNDER_WAY>,
+pub struct Unanswered {
+    entries: ArrayVec<Submitted, QUEUE>,
 }
 
-impl Queue {
-    /// An empty queue.
-    pub fn new() -> Queue
+impl Unanswered {
+    /// No command.
+    pub fn new() -> Unanswered
         ensures { entries_of result ≡ [] }
     {
-        Queue {
+        Unanswered {
             entries: ArrayVec::new(),
         }
     }
 
-    /// Whether 16 commands are under way.
+    /// Whether there are 16 of them.
     pub fn is_full(&self) -> bool
         ensures full { result ≡ is_full (entries_of self.now) }
         ensures most { length (entries_of self.now) ≤ 16 }
@@ -40,8 +39,8 @@ impl Queue {
         self.entries.is_full()
     }
 
-    /// Adds a command. If 16 are under way it is left out, and nobody gets its result.
-    pub fn join(&mut self, entry: UnderWay)
+    /// Adds a command. If there are 16 it is left out, and nobody gets its result.
+    pub fn join(&mut self, entry: Submitted)
         ensures { entries_of self.new ≡ joined (entries_of self.old) entry }
     {
         if !self.is_full() {

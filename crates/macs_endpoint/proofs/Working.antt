@@ -20,8 +20,8 @@ use Rattle.macs_store.specs.Found.{StandsFor, StandsForEither}
 use Rattle.macs_store.specs.Standing.{Ceilings, Standing}
 use Rattle.macs_store.specs.Value.{IsIdle, IsStored, standing_in, standing_then}
 use Rattle.macs_store.specs.Value as store
-use Rattle.macs_store.specs.Kept.{Change}
-use Rattle.macs_store.proofs.Keeping.{in_hand-image}
+use Rattle.macs_store.specs.UnderWay.{UnderWay}
+use Rattle.macs_store.proofs.Keeping.{under_way-image}
 use Rattle.macs_endpoint.specs.Ceilings.{Raise, RaiseRx, RaiseTx, standing_with_raise}
 use Rattle.macs_endpoint.specs.Restart.{Fits, rx_limit}
 use Rattle.macs_endpoint.specs.State.{Logs, State}
@@ -122,7 +122,7 @@ module _ {D : Type 0} (e : EndpointValue D) (kept : IsSoundEndpoint e) where
   before = standing_in e.store
 
   leads_by : IsAtRest e ⊎ (IsReserving e ⊎ IsKeeping e) → (after : Standing) × (standing_then e.store ≡ Some after)
-  leads_by (inl rest) = (before, ap (λ (h : Change). store.standing_with before h) rest.store)
+  leads_by (inl rest) = (before, ap (λ (h : UnderWay). store.standing_with before h) rest.store)
   leads_by (inr (inl work)) = (standing_with_raise before work.raise, work.leads)
   leads_by (inr (inr work)) = (work.after, work.leads)
 
@@ -157,7 +157,7 @@ module _ {D : Type 0} (e : EndpointValue D) (kept : IsSoundEndpoint e) where
         → StandsForEither before after image → Fits this_edition sectors image state
     fits_by after leads (inl rest) left =
         let same : before ≡ after =
-        some_is before after (sym (ap (λ (h : Change). store.standing_with before h) rest.store) ∙ leads) in
+        some_is before after (sym (ap (λ (h : UnderWay). store.standing_with before h) rest.store) ∙ leads) in
         elim left.0 [
           | inl finds ↦ fits-ahead sectors image size state before.ceilings (kept-ahead e kept) finds
           | inr finds ↦ fits-ahead sectors image size state before.ceilings (kept-ahead e kept)
@@ -178,7 +178,7 @@ module _ {D : Type 0} (e : EndpointValue D) (kept : IsSoundEndpoint e) where
         elim left.0 [
           | inl finds ↦ fits-ahead sectors image size state before.ceilings (kept-ahead e kept) finds
           | inr finds ↦ fits-commit sectors image size state before.ceilings work.first.command (kept-ahead e kept)
-              work.in_range work.in_hand (
+              work.in_range work.under_way (
                 inr (
                   work.after,
                   work.accepted,
@@ -203,8 +203,8 @@ module _ {D : Type 0} (e : EndpointValue D) (kept : IsSoundEndpoint e) where
       stored = λ running. stored;
       fits = λ logs image left.
           fits-either (disk_in disk_of e).sectors image size logs (is_stopped e) leads-on.0 leads-on.1
-          (in_hand-image disk_of e.store stored leads-on.0 leads-on.1 image left);
-      form = λ image left. (in_hand-image disk_of e.store stored leads-on.0 leads-on.1 image left).1;
+          (under_way-image disk_of e.store stored leads-on.0 leads-on.1 image left);
+      form = λ image left. (under_way-image disk_of e.store stored leads-on.0 leads-on.1 image left).1;
     }
 
     -- what calls of the work under way leave

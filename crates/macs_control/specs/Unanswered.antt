@@ -1,14 +1,14 @@
--- The commands under way, earliest first, each with its ticket and the client that gave it.
+-- The unanswered commands, earliest first, each with its ticket and the client that gave it.
 use Rattle.std.specs.Prelude.{ℕ, ◌==◌, ◌++◌, if◌then◌else◌, Bool, List, [], ◌∷◌, length, Option, Some, None}
 use Rattle.macs_commands.specs.declared.requests.clients.Client.{Client}
-use Rattle.macs_control.specs.declared.desk.under_way.Queue.{Queue}
-use Rattle.macs_control.specs.declared.desk.under_way.UnderWay.{UnderWay as Entry}
+use Rattle.macs_control.specs.declared.desk.unanswered.Unanswered.{Unanswered}
+use Rattle.macs_control.specs.declared.desk.unanswered.Submitted.{Submitted as Entry}
 
 -- the commands of a queue
-abbrev pub entries_of : Queue → List Entry
+abbrev pub entries_of : Unanswered → List Entry
 entries_of queue = queue.entries.items
 
--- the maximum number of commands is under way
+-- as many commands are unanswered as an endpoint has pending at most
 abbrev pub is_full : List Entry → Bool
 is_full entries = length entries == 16
 

@@ -26,7 +26,7 @@ use Rattle.macs_store.proofs.Migrating.{not-old}
 use Rattle.macs_endpoint.specs.Opening.{IsOpening, Opens}
 use Rattle.macs_endpoint.specs.State.{State, no_logs}
 use Rattle.macs_endpoint.specs.Value.{EndpointValue, device_in, disk_in, is_stopped}
-use Rattle.macs_headline.specs.Binding.{IsBegunAnew, IsUnwritten, OpeningsBeginAnew, StandsAsRead}
+use Rattle.macs_headline.specs.Binding.{IsMigrated, IsUnwritten, OpeningsMigrate, StandsAsRead}
 use Rattle.macs_headline.specs.Deeds.{disk_after_opening}
 use Rattle.macs_headline.proofs.Chains.{history-covers}
 use Rattle.macs_headline.proofs.Ledger.{some_one}
@@ -57,7 +57,7 @@ left_synced TooSmall old new large worked is = absurd (large refl)
 left_synced Failed old new large worked is = absurd (worked refl)
 left_synced fault old new large worked is = is
 
--- a journal of format two is not one to start over
+-- a journal of format two is not compacted by an opening
 none_of_two : (old : Disk) → HasFormat (now old).seen Two → HasNoneToMigrate old
 none_of_two old two c s to = not-old (now old).seen c s two to.is
 
@@ -98,17 +98,17 @@ old_journal image c s found stands one = record {
   old = ap (λ (f : Format). migrates this_edition f) one;
 }
 
-begun_anew : (c : Content) (s : Standing) → IsBegunAnew c (compacted c (snapshot s)) s
-begun_anew c s = record { area = refl; generation = refl; format = refl; identity = refl; count = refl; records = refl }
+is_migration : (c : Content) (s : Standing) → IsMigrated c (compacted c (snapshot s)) s
+is_migration c s = record { area = refl; generation = refl; format = refl; identity = refl; count = refl; records = refl }
 
 by_migration : (old new : Disk) (c : Content) (s : Standing) → IsMigration old new c s → (image : Image)
     → LeftSince new old.clock image
-    → MayLeave old image ⊎ (HasJournal image c ⊎ ((after : Content) × IsBegunAnew c after s × HasJournal image after))
+    → MayLeave old image ⊎ (HasJournal image c ⊎ ((after : Content) × IsMigrated c after s × HasJournal image after))
 by_migration old new c s is image left = elim (is.any_moment.each image left) [
   | inl before ↦ inl before
   | inr journal ↦ elim journal [
     | inl same ↦ inr (inl same)
-    | inr anew ↦ inr (inr (compacted c (snapshot s), begun_anew c s, anew))
+    | inr migrated ↦ inr (inr (compacted c (snapshot s), is_migration c s, migrated))
   ]
 ]
 
@@ -167,9 +167,9 @@ module _ {D : Type 0} (disk_of : D → Disk) (sound : (it : D) → IsHonest (dis
       running : is_stopped e ≡ false
       running = ap (λ (s : State). s.stopped) (opening.state no_logs)
 
-      left_anew : (image : Image) → MayLeave new image
+      left_migrated : (image : Image) → MayLeave new image
           → HasJournal image (compacted c (snapshot standing)) × StandsFor this_edition image standing
-      left_anew image left = (
+      left_migrated image left = (
         ready-image (now new) (compacted c (snapshot standing))
             (opening.device.migrated honest c to_migrate).1 image left,
         stored-image disk_of e.store opening.idle.store ((opening.backed honest).stored running) image left,
@@ -207,7 +207,7 @@ module _ {D : Type 0} (disk_of : D → Disk) (sound : (it : D) → IsHonest (dis
       → c.head.generation ≢ last_generation → (image : Image)
       → LeftSince (disk_after_opening disk_of result) (disk_of disk).clock image
       → MayLeave (disk_of disk) image
-      ⊎ (HasJournal image c ⊎ ((after : Content) × IsBegunAnew c after s × HasJournal image after))
+      ⊎ (HasJournal image c ⊎ ((after : Content) × IsMigrated c after s × HasJournal image after))
   either disk (Ok e) was opening c s found stands one next image left =
       let to : IsToMigrate this_edition (now (disk_of disk)).seen c s =
       record { is = old_journal (now (disk_of disk)).seen c s found stands one; next = next } in
@@ -234,8 +234,8 @@ module _ {D : Type 0} (disk_of : D → Disk) (sound : (it : D) → IsHonest (dis
   unmoved disk (Err refused) was opening given =
       refused_unwritten disk refused.disk refused.fault was opening.refused (λ failed. none_given (disk_of disk) given)
 
-  pub openings-begin-anew : OpeningsBeginAnew disk_of
-  openings-begin-anew = record {
+  pub openings-migrate : OpeningsMigrate disk_of
+  openings-migrate = record {
     alike = alike;
     either = either;
     unwritten = two_unwritten;
@@ -246,11 +246,11 @@ module _ {D : Type 0} (disk_of : D → Disk) (sound : (it : D) → IsHonest (dis
         synced disk refused.disk refused.fault was opening.refused worked large;
     settled = λ disk first was opening. opening.device.settled (opening.device.works.honest ∙ was);
     format = λ disk first was opening. opening.device.format (opening.device.works.honest ∙ was);
-    anew = λ disk first c was opening found one. (
+    migrated = λ disk first c was opening found one. (
       compacted c (snapshot (standing_in first.store)),
-      begun_anew c (standing_in first.store),
+      is_migration c (standing_in first.store),
       read_stands disk first was opening,
-      left_anew disk first was opening c found one,
+      left_migrated disk first was opening c found one,
     );
     last = λ disk first c was opening found one. never_last disk first was opening c found one;
     formatted = λ old new identity honest is image may. (is.kept honest image may).format;
