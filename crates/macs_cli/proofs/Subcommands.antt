@@ -108,8 +108,10 @@ pub relay_of : (rows : List Row) (action : FrameAction) → NamesOnFrames (codes
     → FitsOnFrames action
     → (disk : Bor Text) × (controlled : WireEnds) × (common : WireEnds) × (running : Running)
     × NamesOnFrames (codes "relay", rows) (Relay disk controlled common running) × FitsPace running.pace
-relay_of rows (Protect disk input output is_all) named fits = absurd (omega (arith, ap (λ (t : Text). slice_index t 0) named.0))
-relay_of rows (Validate disk input output is_all is_each) named fits = absurd (omega (arith, ap (λ (t : Text). slice_index t 0) named.0))
+relay_of rows (Protect disk input output is_all) named fits =
+    absurd (omega (arith, ap (λ (t : Text). slice_index t 0) named.0))
+relay_of rows (Validate disk input output is_all is_each) named fits =
+    absurd (omega (arith, ap (λ (t : Text). slice_index t 0) named.0))
 relay_of rows (Relay disk controlled common running) named fits = (disk, controlled, common, running, named, fits)
 
 -- ---- what `ask` is given
@@ -236,7 +238,8 @@ format-named words passes =
     let tx_fits : tx_block < 2 ^ 32 = omega (arith, tx_in.3) in
     let rx_fits : rx_block < 2 ^ 32 = omega (arith, rx_in.3) in
     let rows = rows_after (shape_at 1).rules [] words in inr (
-      OnDisk (Format (text_of disk.0) (text_of sci.0) tx_block rx_block (option_map text_of (first_of (codes "block") rows))
+      OnDisk (Format (text_of disk.0) (text_of sci.0) tx_block rx_block
+          (option_map text_of (first_of (codes "block") rows))
           (is_flagged rows (codes "over"))),
       (
         refl,

@@ -4,7 +4,8 @@ use Rattle.macs_cli.specs.declared.words.help.Subcommand.{Subcommand}
 use Rattle.macs_cli.specs.declared.words.help.Subcommand.TheVariants as subcommand
 use Rattle.macs_cli.specs.declared.words.help.Topic.{Topic}
 use Rattle.macs_cli.specs.declared.words.help.Topic.TheVariants.{Help, HelpOn, Version}
-use Rattle.macs_cli.specs.declared.words.help_texts.TheConstants.{ABOUT, APPLY, ASK, CHECK, EXAMINE, FORMAT, HELP, INSPECT}
+use Rattle.macs_cli.specs.declared.words.help_texts.TheConstants.{ABOUT, APPLY, ASK, CHECK, EXAMINE, FORMAT, HELP}
+use Rattle.macs_cli.specs.declared.words.help_texts.TheConstants.{INSPECT}
 use Rattle.macs_cli.specs.declared.words.help_texts.TheConstants.{KEY, OPEN, PLAN, PROTECT, RELAY, SHOW, VALIDATE}
 use Rattle.macs_cli.specs.declared.words.help_texts.TheConstants.{VERSION}
 

@@ -22,8 +22,10 @@ use Rattle.macs_commands.specs.Talks.{Talk}
 use Rattle.macs_commands.specs.declared.requests.clients.Client.{Client}
 use Rattle.macs_commands.specs.declared.requests.clients.Heard.{Heard as HeardLine}
 use Rattle.macs_commands.specs.declared.requests.request.Request.{Request}
-use Rattle.macs_commands.specs.declared.requests.request.Request.TheVariants.{About, Apply, Counters, Keys, Show, Stop, Traffic}
-use Rattle.macs_control.specs.Listening.{Answers, HandsIn, Listens, ListensUnless, Looks, LooksIf, Reads, Reports, Tells}
+use Rattle.macs_commands.specs.declared.requests.request.Request.TheVariants.{About, Apply, Counters, Keys, Show, Stop}
+use Rattle.macs_commands.specs.declared.requests.request.Request.TheVariants.{Traffic}
+use Rattle.macs_control.specs.Listening.{Answers, HandsIn, Listens, ListensUnless, Looks, LooksIf, Reads, Reports}
+use Rattle.macs_control.specs.Listening.{Tells}
 use Rattle.macs_control.specs.Listening.{said_to, sleep_after}
 use Rattle.macs_control.specs.Replies.{ended_text}
 use Rattle.macs_control.specs.Serving.{ClientsAreTold, DeskState, Speaks, SpeaksAt, Told, asking_after, ended_in}
@@ -232,7 +234,8 @@ module _ (events : List DeskEvent) (talks : List (List Talk)) (new : DeskState) 
     told = served.told;
     ends = served.ends;
     said = served.said;
-    clients = ap (λ (l : List Talk). clients_in old.unanswered ++ givers (asking_after old.asking l) events talks) silent
+    clients =
+        ap (λ (l : List Talk). clients_in old.unanswered ++ givers (asking_after old.asking l) events talks) silent
         ∙ ap (λ (d : DeskState). clients_in d.unanswered ++ givers d.asking events talks) (sym same) ∙ served.clients;
     waiting = served.waiting;
   }

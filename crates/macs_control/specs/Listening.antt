@@ -15,7 +15,8 @@ use Rattle.macs_commands.specs.Talks.{Talk, Heard, Said, Slept, Looked, Note, As
 use Rattle.macs_commands.specs.declared.requests.clients.Client.{Client}
 use Rattle.macs_commands.specs.declared.requests.clients.Heard.{Heard as HeardLine}
 use Rattle.macs_commands.specs.declared.requests.request.Request.{Request}
-use Rattle.macs_commands.specs.declared.requests.request.Request.TheVariants.{About, Apply, Counters, Keys, Show, Stop, Traffic}
+use Rattle.macs_commands.specs.declared.requests.request.Request.TheVariants.{About, Apply, Counters, Keys, Show, Stop}
+use Rattle.macs_commands.specs.declared.requests.request.Request.TheVariants.{Traffic}
 use Rattle.macs_rxsc.specs.Value as rxsc
 use Rattle.macs_txsc.specs.Value as txsc
 use Rattle.macs_texts.specs.Counting.{counters_text, reported}

@@ -107,8 +107,9 @@ fn listener_at<T: Files + Net>(
 }
 
 impl<'a, T: Files + Clock> ControlSocket<'a, T> {
-    /// Binds the control socket at `path`; without a path there are no clients. A sleep on it and on
-    /// these wires ends after `limit` milliseconds, at most 1,000. Fails with `Memory`, then `Bind`.
+    /// Binds the control socket at `path`; without a path there are no clients. A sleep on it and
+    /// on these wires ends after `limit` milliseconds, at most 1,000. Fails with `Memory`, then
+    /// `Bind`.
     pub fn bind(
         rt: &'a T,
         alloc: Global,

@@ -88,8 +88,8 @@ impl Watch {
         ]
     }
 
-    /// Sleeps until one of them is readable, as `Wires::sleep` does. Returns whether one other than a
-    /// wire is, or the call failed.
+    /// Sleeps until one of them is readable, as `Wires::sleep` does. Returns whether one other than
+    /// a wire is, or the call failed.
     pub fn sleep(&self, milliseconds: u16) -> bool {
         let mut asked = self.asked();
         let found = poll(&mut asked, timeout(milliseconds));

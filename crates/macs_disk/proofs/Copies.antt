@@ -5,7 +5,8 @@ use Rattle.macs_disk.specs.FileDisks.{HasFront}
 use Rattle.macs_disk.specs.FileEvidence.{length-values, value-at}
 use Rattle.macs_disk.specs.Files.{FileState, file_after_write}
 use Rattle.macs_disk.specs.Files.{put_from, values_from}
-use Rattle.macs_disk.proofs.FileWrites.{put-at, put-before, write-behaves, write-block, write-seen, write-size, write-sure}
+use Rattle.macs_disk.proofs.FileWrites.{put-at, put-before, write-behaves, write-block, write-seen, write-size}
+use Rattle.macs_disk.proofs.FileWrites.{write-sure}
 
 -- one part more
 pub front-more : (from into new : FileState) (done count : ℕ) (octets : List ℕ) → 0 < count → HasFront from done into

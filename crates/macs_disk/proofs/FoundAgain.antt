@@ -5,7 +5,8 @@ use Rattle.std.proofs.Common.{true, false, List, [], ◌∷◌, length, nat_lt, 
 use Rattle.std.proofs.Common.{subst, sym, Result, Ok, Err}
 use Rattle.std.proofs.lemmas.Bool.{cases_eq, cases_lt, le-leb, le-ltb}
 use Rattle.macs_disk.specs.Disk.{Disk}
-use Rattle.macs_disk.specs.Files.{Behaves, FileState, HasNothingNew, IsCopy, IsFileImage, IsSoundFile, IsSure, WritesAll}
+use Rattle.macs_disk.specs.Files.{Behaves, FileState, HasNothingNew, IsCopy, IsFileImage, IsSoundFile, IsSure}
+use Rattle.macs_disk.specs.Files.{WritesAll}
 use Rattle.macs_disk.specs.Files.{file_after_sync, file_after_write, file_in_doubt, values_from}
 use Rattle.macs_disk.specs.FileDisks.{IsCleared, IsExtent, IsFoundAs, IsOpened, KeepsLayout, file_lengthened}
 use Rattle.macs_disk.specs.FileEvidence.{StandsAt, is_same, stands-at, values-same}

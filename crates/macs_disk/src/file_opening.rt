@@ -77,8 +77,8 @@ impl<F: DiskFile> FileDisk<F> {
     /// fault is `Open`.
     ///
     /// The file is made anew, so that all that the disk has is durable, no matter what an earlier
-    /// run left of the file in the system's memory, whoever else has its pages there. It is claimed and
-    /// copied to NAME.new, which is synced and takes its name; the folder is synced. Fails with
+    /// run left of the file in the system's memory, whoever else has its pages there. It is claimed
+    /// and copied to NAME.new, which is synced and takes its name; the folder is synced. Fails with
     /// `Open` if that cannot be done: the folder may not be written, the file has a second name, or
     /// is a mount point. At each moment the name is that of a whole file with these octets.
     pub fn open<R: Files<File = F>, A: Allocator + Copy>(

@@ -71,16 +71,20 @@ module _ {D : Type 0} (disk_of : D → Disk) where
         between,
         progress,
         unattended-turns turns old between earlier was_quiet before (continues-front earlier last all),
-        subst (λ (e : EndpointValue D). TakesTurn disk_of (Ok progress) (record between { endpoint = e }) new) same turn,
+        subst
+            (λ (e : EndpointValue D). TakesTurn disk_of (Ok progress) (record between { endpoint = e }) new) same turn,
       )
 
-  unattended-relays : {T : Type 0} (turns : ℕ) (old new : Relay D) (events : List DeskEvent) (result : Result T RefillFault)
+  unattended-relays : {T : Type 0} (turns : ℕ) (old new : Relay D) (events : List DeskEvent)
+      (result : Result T RefillFault)
       → Attends disk_of turns old events result new → Continues events → Relays disk_of turns old result new
-  unattended-relays turns old new events (Ok summary) (during, (taken, earlier, quiet, takes, inl (all, same)), is) are =
+  unattended-relays turns old new events (Ok summary)
+      (during, (taken, earlier, quiet, takes, inl (all, same)), is) are =
       let told : Continues during = continues-front during (failed_of new.endpoint.waiting) (subst Continues is are) in
       subst (λ (n : ℕ). TakesTurns disk_of n old new) all
       (unattended-turns taken old new earlier quiet takes (subst Continues same told))
-  unattended-relays turns old new events (Ok summary) (during, (taken, earlier, quiet, takes, inr (few, ends)), is) are =
+  unattended-relays turns old new events (Ok summary)
+      (during, (taken, earlier, quiet, takes, inr (few, ends)), is) are =
       let told : Continues during = continues-front during (failed_of new.endpoint.waiting) (subst Continues is are) in
       absurd (let no : End ≡ Go = (continues-back earlier (Wanted quiet End ∷ []) (subst Continues ends
       told)).0 in cc)

@@ -30,7 +30,8 @@ impl Idle for Awake {
     fn idle(&mut self) {}
 }
 
-/// The desk of a relay without clients: the relay continues before each turn, and sleeps after each quiet one.
+/// The desk of a relay without clients: the relay continues before each turn, and sleeps after each
+/// quiet one.
 #[derive(Drop)]
 pub struct Unattended<I> {
     pub idle: I,

@@ -117,7 +117,8 @@ module _ {D : Type 0} (disk_of : D → Disk) (old new : EndpointValue D) (kept :
     keeps : (reply : Reply) → reservations_in_reply reply ≡ 0 → new.store ≡ old.store → new.turn ≡ old.turn → t ≡ s
         → Uses reply
     keeps reply none store whose is =
-        stays reply none (ap (λ (x : State). x.under_way) is) store whose (waits_still (ap (λ (x : State). x.waiting) is))
+        stays reply none (ap (λ (x : State). x.under_way) is) store whose
+        (waits_still (ap (λ (x : State). x.waiting) is))
 
     -- ---- a step
 

@@ -46,7 +46,8 @@ rx_carried block pn (Some old) (Some new) (Some ceiling) rises within = (rises p
 
 -- an endpoint with the work under way of another one
 abbrev pub with_work : {D : Type 0} → EndpointValue D → EndpointValue D → EndpointValue D
-with_work e other = record other { store = e.store; under_way = e.under_way; reserving = e.reserving; waiting = e.waiting }
+with_work e other =
+    record other { store = e.store; under_way = e.under_way; reserving = e.reserving; waiting = e.waiting }
 
 pub work-carried : {D : Type 0} (e other : EndpointValue D)
     → ((raise : Raise) → IsRaiseWithin e.tx e.rx (standing_in e.store).identity raise

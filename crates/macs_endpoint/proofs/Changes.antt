@@ -9,7 +9,8 @@ use Rattle.macs_endpoint.specs.Ceilings.{standing_with_raise, standing_with_rese
 use Rattle.macs_endpoint.specs.Queue.{first_command}
 use Rattle.macs_endpoint.specs.State.{Advanced, AdvancedLong, Advances, Call, Commands, Protected, Protects, Ran}
 use Rattle.macs_endpoint.specs.State.{Received, Receives, Refilled, Refills, RefusedLong, Reply, State, Submits}
-use Rattle.macs_endpoint.specs.State.{Submitted, command_made, rx_side, state_after_fault, state_with_under_way, tx_side}
+use Rattle.macs_endpoint.specs.State.{Submitted, command_made, rx_side, state_after_fault, state_with_under_way}
+use Rattle.macs_endpoint.specs.State.{tx_side}
 use Rattle.macs_endpoint.specs.Step.{Step, next_after, numbers_after, state_with_waiting, state_without_first}
 use Rattle.macs_endpoint.specs.declared.fault.CommandFault.TheVariants as ran
 use Rattle.macs_endpoint.specs.declared.fault.RefillFault.TheVariants as refill

@@ -140,7 +140,7 @@ few-put numbers at number x below all =
 
 -- ---- a command
 
-from_one : (start : ℕ) → (start == 0) ≡ false → 1 ≤ start
+pub from_one : (start : ℕ) → (start == 0) ≡ false → 1 ≤ start
 from_one zero is = absurd cc
 from_one (suc n) is = omega arith
 
@@ -321,7 +321,8 @@ module _ (sectors : ℕ) (image : Image) (size : least_sectors ≤ sectors) wher
       (not s.stopped && is_ok (apply s.edition s.identity s.config command)) sectors image
       (fits-holding edition s command free fits) fits
 
-  fits-first : (edition : Edition) (s : State) (under_way : Option Command) (waiting : List Waiting) → s.under_way ≡ under_way
+  fits-first : (edition : Edition) (s : State) (under_way : Option Command) (waiting : List Waiting)
+      → s.under_way ≡ under_way
       → Fits edition sectors image s
       → Fits edition sectors image (state_taking_first s under_way waiting)
   fits-first edition s None [] free fits = fits

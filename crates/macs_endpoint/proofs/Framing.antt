@@ -356,7 +356,8 @@ module _ {D : Type 0} (disk_of : D → Disk) (old : EndpointValue D) (tx : Tx) (
   counted_after : (result : Result ℕ TxFault)
       → txsc.counters_of tx
       ≡ counters_after_answer (next_tag (txsc.tx_side_of old.tx)) plain result (txsc.counters_of old.tx)
-      → txsc.counters_of tx ≡ tx_counters_after (state_of old no_logs) (Protects plain) (Protected (answered result) out)
+      → txsc.counters_of tx
+      ≡ tx_counters_after (state_of old no_logs) (Protects plain) (Protected (answered result) out)
       (txsc.counters_of old.tx)
   counted_after (Ok pn) is =
       is ∙ ap (λ (x : TxSide). counters_after_answer (next_tag x) plain (Ok pn) (txsc.counters_of old.tx))

@@ -82,6 +82,15 @@ cut-short-kept {D} mid command kept stopped = record {
     by (inr (inl work)) = absurd (not_stopped (is_stopped mid) stopped work.running)
     by (inr (inr work)) = absurd (not_stopped (is_stopped mid) stopped work.running)
 
+-- and nothing is being raised then
+pub cut-free : {D : Type 0} (mid : EndpointValue D) → IsSoundEndpoint mid → is_stopped mid ≡ true
+    → mid.reserving ≡ None
+cut-free mid kept stopped = by kept.work where
+  by : IsAtRest mid ⊎ (IsReserving mid ⊎ IsKeeping mid) → mid.reserving ≡ None
+  by (inl rest) = rest.reserving
+  by (inr (inl work)) = absurd (not_stopped (is_stopped mid) stopped work.running)
+  by (inr (inr work)) = work.reserving
+
 -- ---- a command after it
 
 module _ {D : Type 0} (disk_of : D → disk.Disk) (e : EndpointValue D) (command : Command) (ranges : IsCommand command)

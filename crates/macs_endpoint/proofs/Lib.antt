@@ -22,6 +22,7 @@ pub mod Stepped
 pub mod Taken
 mod KeptBehind
 mod TakenUp
+mod Parts
 mod Queued
 pub mod Work
 pub mod Changes

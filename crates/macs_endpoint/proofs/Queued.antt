@@ -7,15 +7,19 @@ use Rattle.macs_config.specs.declared.command.Command.{Command}
 use Rattle.macs_disk.specs.Disk as disk
 use Rattle.macs_txsc.specs.Value as txsc
 use Rattle.macs_rxsc.specs.Value as rxsc
+use Rattle.macs_store.specs.Value.{StoreValue}
 use Rattle.macs_endpoint.specs.Calls.{IsCall}
+use Rattle.macs_endpoint.specs.Parts.{endpoint_of}
 use Rattle.macs_endpoint.specs.Queue.{QueueValue, Queues, last_ticket, queue_length, with_waiting}
 use Rattle.macs_endpoint.specs.State.{Logs, Submits, Submitted}
 use Rattle.macs_endpoint.specs.Step.{RunningStep, Step}
 use Rattle.macs_endpoint.specs.Value.{EndpointValue, IsAtRest, IsBacked, IsKeeping, IsReserving, IsSoundEndpoint}
 use Rattle.macs_endpoint.specs.Value.{is_stopped, state_of}
+use Rattle.macs_endpoint.specs.declared.channels.Channels.{Channels}
 use Rattle.macs_endpoint.specs.declared.fault.SubmitFault.{SubmitFault}
 use Rattle.macs_endpoint.specs.declared.fault.SubmitFault.TheVariants as submit
 use Rattle.macs_endpoint.specs.declared.queue.Waiting.{Waiting}
+use Rattle.macs_endpoint.specs.declared.turn.Turn.{Turn}
 use Rattle.macs_endpoint.proofs.Alone.{alone-call}
 use Rattle.macs_endpoint.proofs.Ended.{kept-held}
 use Rattle.macs_endpoint.proofs.Working.{kept-backed}
@@ -57,21 +61,26 @@ module _ {D : Type 0} (disk_of : D → disk.Disk) (e : EndpointValue D) (command
   stopped-submit stopped =
       untouched (Err submit.Stopped) e refl refl refl (λ logs. inl (stopped, tt, refl)) (λ backed. backed)
 
-  -- ---- the commands that wait
+-- ---- the commands that wait
 
-  -- an endpoint with other commands that wait
+module _ {D : Type 0} (disk_of : D → disk.Disk) (s : StoreValue D) (channels : Channels) (before : QueueValue)
+    (whose : Turn) (command : Command) (ranges : IsCommand command) where
+  -- an endpoint with this queue
   abbrev pub queued : QueueValue → EndpointValue D
-  queued queue = record e { waiting = queue.waiting; tickets = queue.given }
+  queued queue = endpoint_of s channels queue whose
 
-  -- those that wait before
-  abbrev pub before : QueueValue
-  before = record { waiting = e.waiting; given = e.tickets }
+  abbrev e : EndpointValue D
+  e = queued before
+
+  -- the queue with one command more
+  abbrev more : ℕ → QueueValue
+  more ticket = record before { waiting = with_waiting before.waiting ticket command; given = ticket }
 
   -- the work under way is the same
   more_work : (ticket : ℕ) → IsAtRest e ⊎ (IsReserving e ⊎ IsKeeping e)
-      → let more : QueueValue = record { waiting = with_waiting e.waiting ticket command; given = ticket } in
-      IsAtRest (queued more) ⊎ (IsReserving (queued more) ⊎ IsKeeping (queued more))
-  more_work ticket (inl rest) = inl (record { store = rest.store; reserving = rest.reserving; under_way = rest.under_way })
+      → IsAtRest (queued (more ticket)) ⊎ (IsReserving (queued (more ticket)) ⊎ IsKeeping (queued (more ticket)))
+  more_work ticket (inl rest) =
+      inl (record { store = rest.store; reserving = rest.reserving; under_way = rest.under_way })
   more_work ticket (inr (inl work)) = inr (inl (record {
     running = work.running;
     busy = work.busy;
@@ -97,9 +106,9 @@ module _ {D : Type 0} (disk_of : D → disk.Disk) (e : EndpointValue D) (command
 
   module _ (kept : IsSoundEndpoint e) where
     more_kept : (ticket : ℕ) → length e.waiting < queue_length → ticket ≤ last_ticket
-        → IsSoundEndpoint (queued (record { waiting = with_waiting e.waiting ticket command; given = ticket }))
+        → IsSoundEndpoint (queued (more ticket))
     more_kept ticket few within =
-        kept-held e (queued (record { waiting = with_waiting e.waiting ticket command; given = ticket })) kept refl
+        kept-held e (queued (more ticket)) kept refl
         (one_more e.waiting ticket command few) within
         (more_work ticket kept.work)
 
@@ -121,7 +130,7 @@ module _ {D : Type 0} (disk_of : D → disk.Disk) (e : EndpointValue D) (command
           → RunningStep (state_of e logs) (Submits command) (Submitted result) (state_of (queued queue) logs))
           → IsCall disk_of e (Submits command) (Submitted result) (queued queue)
       queued_call result queue queues steps =
-          untouched result (queued queue) refl refl refl (λ logs. inr (running, steps logs))
+          untouched disk_of e command ranges result (queued queue) refl refl refl (λ logs. inr (running, steps logs))
           (λ backed.
           kept-backed (queued queue) (queued-kept result queue queues) disk_of backed.size (backed.stored running))
 
@@ -139,9 +148,8 @@ module _ {D : Type 0} (disk_of : D → disk.Disk) (e : EndpointValue D) (command
             queues.1,
             queues.2,
             subst (λ (n : ℕ). state_of (queued queue) logs
-                ≡ state_of (queued (record { waiting = with_waiting e.waiting n command; given = n })) logs) queues.2
-                (state_by queue (record { waiting = with_waiting e.waiting ticket command; given = ticket })
-                logs queues.3),
+                ≡ state_of (queued (more n)) logs) queues.2
+                (state_by queue (more ticket) logs queues.3),
           ))
       queued-submit (Err submit.QueueFull) queue queues =
           queued_call (Err submit.QueueFull) queue queues (λ logs. (queues.0, state_by queue before logs queues.1))

@@ -68,7 +68,8 @@ accepted_by s command (Err refusal) is = absurd cc
 
 taken_by : (s : State) (command : Command) (stopped accepts : Bool) → stopped ≡ false → accepts ≡ true
     → (if not stopped && accepts then state_with_under_way s command else s) ≡ state_with_under_way s command
-taken_by s command stopped accepts running is = λ i. if not (running i) && is i then state_with_under_way s command else s
+taken_by s command stopped accepts running is = λ i. if not (running i) && is i
+    then state_with_under_way s command else s
 
 -- the first command is under way while it is taken up
 during_taken : (s : State) (under_way : Option Command) (waiting : List Waiting) (first : Waiting) (rest : List Waiting)
@@ -175,7 +176,8 @@ module _ {D : Type 0} (disk_of : D → disk.Disk) (e : EndpointValue D) (kept : 
         taken-call disk_of e running idle after s has (Some first.command) e.reserving result new call leads stands
         (subst (λ (p : Option Due). BeginsWith e p result new) (sym next) begins) counted
         (λ logs sectors image size fits. subst (λ (x : State). Fits this_edition sectors image x)
-        (taken_state logs ∙ sym (during_taken (state_of e logs) e.under_way e.waiting first rest (resting.under_way running)
+        (taken_state logs
+        ∙ sym (during_taken (state_of e logs) e.under_way e.waiting first rest (resting.under_way running)
         waiting_is running accepts)) fits)
         taken_backed
 

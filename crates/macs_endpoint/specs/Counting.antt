@@ -11,7 +11,8 @@ use Rattle.macs_rxsc.specs.Counting.{counters_after_verdict, counters_after_verd
 use Rattle.macs_rxsc.specs.Receive.{channel_of}
 use Rattle.macs_rxsc.specs.declared.counters.ChannelCounters.{ChannelCounters}
 use Rattle.macs_rxsc.specs.declared.counters.RxCounters.{RxCounters}
-use Rattle.macs_endpoint.specs.State.{Call, Protected, Protects, Received, Receives, Reply, State, command_made, rx_side}
+use Rattle.macs_endpoint.specs.State.{Call, Protected, Protects, Received, Receives, Reply, State, command_made}
+use Rattle.macs_endpoint.specs.State.{rx_side}
 use Rattle.macs_endpoint.specs.State.{tx_side}
 use Rattle.macs_endpoint.specs.declared.fault.ProtectFault.TheVariants.{Tx}
 

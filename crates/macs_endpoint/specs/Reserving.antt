@@ -89,7 +89,8 @@ pub record StartsRaise {D : Type 0} (disk_of : D → Disk) (old : EndpointValue 
     (result : Result (Unit {0}) JournalFault) (new : EndpointValue D) : Type 0 where
   pub refused : OnErr result (IsErrOf result journal.GenerationsSpent × (new ≡ old) × IsSpent old.store)
   pub room : OnOk result (¬ IsSpent old.store)
-  pub under_way : OnOk result (HasUnderWay disk_of old.store (standing_with_raise (standing_in old.store) raise) new.store)
+  pub under_way : OnOk result
+      (HasUnderWay disk_of old.store (standing_with_raise (standing_in old.store) raise) new.store)
   pub taken : OnOk result (new ≡ record old { store = new.store; reserving = Some raise })
   pub reserving : OnOk result (IsReserving new)
   pub sound : OnOk result (IsSoundEndpoint old)

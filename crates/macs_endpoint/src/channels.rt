@@ -2,7 +2,6 @@
 
 ghost use Rattle.std.specs.Prelude.{◌≡◌, ◌≤◌, true, Some, None, Ok, IsSome, IfSome};
 ghost use Rattle.std.specs.Option.{option_map};
-ghost use Rattle.macs_config.specs.Judged.{asked_by};
 ghost use Rattle.macs_config.specs.Tables.{put, put_at};
 ghost use Rattle.macs_txsc.specs.Value as txsc;
 ghost use Rattle.macs_rxsc.specs.Value as rxsc;
@@ -16,7 +15,7 @@ ghost use Rattle.macs_endpoint.specs.PrivateTypes.{raise_of};
 ghost use Rattle.macs_endpoint.specs.Value.{AreChannels, IsRaiseWithin};
 
 use crate::refilling::Raise;
-use macs_config::{Checked, Judged};
+use macs_config::Command;
 use macs_disk::SectorDisk;
 use macs_frame::{An, Sci};
 use macs_rxsc::Rx;
@@ -31,53 +30,43 @@ pub(crate) struct Channels {
 }
 
 impl Channels {
-    /// Follows a command that the store keeps, given the verdict of its check.
-    pub(crate) fn follow<D: SectorDisk>(&mut self, checked: &Checked, store: &Store<D>)
+    /// Follows a command that the store keeps.
+    pub(crate) fn follow<D: SectorDisk>(&mut self, command: &Command, store: &Store<D>)
         requires { (before : Standing) × AreChannels self.old.tx self.old.rx before
-            × (accept before checked.now ≡ Ok (standing_in store.now)) }
-        ensures { Follows checked.now (standing_in store.now) self.old.tx self.old.rx self.new.tx
+            × (accept before command.now ≡ Ok (standing_in store.now)) }
+        ensures { Follows command.now (standing_in store.now) self.old.tx self.old.rx self.new.tx
             self.new.rx }
     {
-        self.follow_judged(checked.judged(), store);
-    }
-
-    /// Follows the verdict on a command that the store keeps.
-    fn follow_judged<D: SectorDisk>(&mut self, judged: &Judged, store: &Store<D>)
-        requires { (before : Standing) × AreChannels self.old.tx self.old.rx before
-            × (accept before (asked_by judged.now) ≡ Ok (standing_in store.now)) }
-        ensures { Follows (asked_by judged.now) (standing_in store.now) self.old.tx self.old.rx
-            self.new.tx self.new.rx }
-    {
-        match *judged {
-            Judged::SetValidate(_) | Judged::SetReplay { .. } => set_policy(&mut self.rx, store),
-            Judged::SetSciMode(mode) => self.tx.set_mode(mode),
-            Judged::TxInstall { an, start, .. } => {
-                install_tx(&mut self.tx, store, an, u64::from(start.get()));
+        match *command {
+            Command::SetValidate(_) | Command::SetReplay { .. } => set_policy(&mut self.rx, store),
+            Command::SetSciMode(mode) => self.tx.set_mode(mode),
+            Command::TxInstall { an, start, .. } => {
+                install_tx(&mut self.tx, store, an, u64::from(start));
             }
-            Judged::TxUse { an } => self.tx.select(an),
-            Judged::TxRemove { an } => self.tx.remove(an),
-            Judged::RxAdd { .. }
-            | Judged::RxDrop { .. }
-            | Judged::RxInstall { .. }
-            | Judged::RxRemove { .. } => self.follow_rx(judged, store),
+            Command::TxUse { an } => self.tx.select(an),
+            Command::TxRemove { an } => self.tx.remove(an),
+            Command::RxAdd { .. }
+            | Command::RxDrop { .. }
+            | Command::RxInstall { .. }
+            | Command::RxRemove { .. } => self.follow_rx(command, store),
         }
     }
 
     /// Follows a command of a receive channel, or of an association of one, which the store keeps.
-    fn follow_rx<D: SectorDisk>(&mut self, judged: &Judged, store: &Store<D>)
-        requires received { is_of_rx (asked_by judged.now) ≡ true }
+    fn follow_rx<D: SectorDisk>(&mut self, command: &Command, store: &Store<D>)
+        requires received { is_of_rx command.now ≡ true }
         requires kept { (before : Standing) × AreChannels self.old.tx self.old.rx before
-            × (accept before (asked_by judged.now) ≡ Ok (standing_in store.now)) }
-        ensures { Follows (asked_by judged.now) (standing_in store.now) self.old.tx self.old.rx
-            self.new.tx self.new.rx }
+            × (accept before command.now ≡ Ok (standing_in store.now)) }
+        ensures { Follows command.now (standing_in store.now) self.old.tx self.old.rx self.new.tx
+            self.new.rx }
     {
-        match *judged {
-            Judged::RxAdd { sci } => self.rx.add(sci),
-            Judged::RxDrop { sci } => self.rx.drop_channel(sci),
-            Judged::RxInstall { sci, an, start, .. } => {
-                install_rx(&mut self.rx, store, sci, an, u64::from(start.get()));
+        match *command {
+            Command::RxAdd { sci } => self.rx.add(sci),
+            Command::RxDrop { sci } => self.rx.drop_channel(sci),
+            Command::RxInstall { sci, an, start, .. } => {
+                install_rx(&mut self.rx, store, sci, an, u64::from(start));
             }
-            Judged::RxRemove { sci, an } => self.rx.remove(sci, an),
+            Command::RxRemove { sci, an } => self.rx.remove(sci, an),
             _ => {} // No other command is.
         }
     }

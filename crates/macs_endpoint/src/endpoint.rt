@@ -19,7 +19,6 @@ use crate::channels::Channels;
 use crate::counters::Counters;
 use crate::fault::{CommandFault, ProtectFault, Stopped};
 use crate::queue::{Queue, Waiting};
-use crate::refilling::Raise;
 use crate::turn::Turn;
 use macs_config::laws::{command_in_range, identity_in_range};
 use macs_config::{Checked, Command, Config, Identity};
@@ -37,11 +36,6 @@ use std::marker::Model;
 #[derive(Drop)]
 pub struct Endpoint<D: SectorDisk> {
     pub(crate) store: Store<D>,
-    /// The command whose call or whose work on the disk began and did not end; it stays after a
-    /// device fault.
-    pub(crate) under_way: Option<Checked>,
-    /// The ceiling that is being raised.
-    pub(crate) reserving: Option<Raise>,
     pub(crate) queue: Queue,
     pub(crate) channels: Channels, // After an integer, so that the compiler moves it separately.
     pub(crate) turn: Turn,
@@ -50,10 +44,9 @@ pub struct Endpoint<D: SectorDisk> {
 impl<D: SectorDisk> Model for Endpoint<D> {
     ghost Value = { EndpointValue D };
 
-    ghost view = { λ e. endpoint_of e.store e.channels e.under_way e.reserving e.queue e.turn };
+    ghost view = { λ e. endpoint_of e.store e.channels e.queue e.turn };
 
-    ghost invariant = { λ e.
-        IsSoundEndpoint (endpoint_of e.store e.channels e.under_way e.reserving e.queue e.turn) };
+    ghost invariant = { λ e. IsSoundEndpoint (endpoint_of e.store e.channels e.queue e.turn) };
 }
 
 impl<D: SectorDisk> Endpoint<D> {
@@ -93,8 +86,6 @@ impl<D: SectorDisk> Endpoint<D> {
         store.config().facts();
         Ok(Endpoint {
             store,
-            under_way: None,
-            reserving: None,
             queue: Queue::new(),
             channels,
             turn: Turn::Reservation,
@@ -138,7 +129,7 @@ impl<D: SectorDisk> Endpoint<D> {
     {
         self.facts();
         if self.finish_reservation().is_err() {
-            self.under_way = Some(*checked);
+            self.queue.cut(checked.command());
             self.turn = Turn::Reservation;
             return Err(CommandFault::Disk);
         }
@@ -156,14 +147,15 @@ impl<D: SectorDisk> Endpoint<D> {
         ensures { KeepsCommand D.disk self.old checked.now result self.new }
     {
         self.turn = Turn::Reservation;
+        let command = checked.command();
         match self.store.commit_checked(checked) {
             Ok(()) => {
-                self.channels.follow(checked, &self.store);
+                self.channels.follow(&command, &self.store);
                 Ok(())
             }
             Err(fault) => match fault {
                 CommitFault::Disk => {
-                    self.under_way = Some(*checked);
+                    self.queue.cut(command);
                     Err(CommandFault::Disk)
                 }
                 _ => Err(CommandFault::GenerationsSpent),
@@ -221,8 +213,7 @@ impl<D: SectorDisk> Endpoint<D> {
     pub fn under_way(&self) -> Option<Command>
         ensures { result ≡ (state_of self.now no_logs).under_way }
     {
-        let checked = self.under_way?;
-        Some(checked.command())
+        self.queue.command()
     }
 
     /// The pending submitted commands, in order, each with its ticket. If work on the disk for one

@@ -17,6 +17,7 @@ mod refilling;
 mod serving;
 mod stepping;
 mod turn;
+mod under_way;
 
 pub use counters::Counters;
 pub use endpoint::Endpoint;

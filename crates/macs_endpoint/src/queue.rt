@@ -1,9 +1,11 @@
-//! Commands that wait for their turn.
+//! Commands that wait for their turn, and what is under way.
 
-ghost use Rattle.std.specs.Prelude.{◌≡◌, ◌≤◌, ◌↔◌, [], ◌∷◌, IsTrue, length};
-ghost use Rattle.macs_endpoint.specs.Queue.{QueueValue, Queues, first_waiting};
+ghost use Rattle.std.specs.Prelude.{◌≡◌, ◌≤◌, ◌↔◌, [], ◌∷◌, IsTrue, None, Some, length};
+ghost use Rattle.macs_endpoint.specs.Queue.{QueueValue, Queues, first_command, first_waiting};
 
 use crate::fault::SubmitFault;
+use crate::refilling::Raise;
+use crate::under_way::UnderWay;
 use arrayvec::ArrayVec;
 use macs_config::{Command, Validate};
 use std::marker::Model;
@@ -59,32 +61,37 @@ impl Default for Waiting {
     }
 }
 
-/// The pending commands, in order, and how many tickets were given.
+/// The pending commands, in order, what is under way, and how many tickets were given. A pending
+/// command that is under way is the first, and has no copy.
 #[derive(Drop)]
 pub(crate) struct Queue {
     waiting: ArrayVec<Waiting, QUEUE>,
+    under_way: UnderWay,
     given: u64,
 }
 
 impl Model for Queue {
     ghost use Rattle.std.specs.Prelude.{◌≤◌, length};
-    ghost use Rattle.macs_endpoint.specs.Queue.{QueueValue, last_ticket, queue_length};
+    ghost use Rattle.macs_endpoint.specs.Queue.{QueueValue, IsUnderWayIn, last_ticket};
+    ghost use Rattle.macs_endpoint.specs.Queue.{queue_length};
+    ghost use Rattle.macs_endpoint.specs.Queue.{queue_of};
 
     ghost Value = { QueueValue };
 
-    ghost view = { λ q. record { waiting = q.waiting.items; given = q.given } };
+    ghost view = { λ q. queue_of q.waiting.items q.under_way q.given };
 
-    ghost invariant = { λ q. (length q.waiting.items ≤ queue_length) × (q.given ≤ last_ticket) };
+    ghost invariant = { λ q. (length q.waiting.items ≤ queue_length) × (q.given ≤ last_ticket)
+        × IsUnderWayIn q.waiting.items q.under_way };
 }
 
 impl Queue {
-    /// No command is pending, and no ticket was given.
+    /// No command is pending, nothing is under way, and no ticket was given.
     pub(crate) fn new() -> Queue
-        ensures waiting { result.waiting ≡ [] }
-        ensures given { result.given ≡ 0 }
+        ensures { result ≡ record { waiting = []; given = 0; under_way = None; reserving = None } }
     {
         Queue {
             waiting: ArrayVec::new(),
+            under_way: UnderWay::Nothing,
             given: 0,
         }
     }
@@ -110,6 +117,30 @@ impl Queue {
         self.waiting.as_slice().first().copied()
     }
 
+    /// The command under way.
+    pub(crate) fn command(&self) -> Option<Command>
+        ensures { result ≡ self.now.under_way }
+    {
+        match self.under_way {
+            UnderWay::Nothing => None,
+            UnderWay::Raise(_) => None,
+            UnderWay::First => Some(self.first()?.command),
+            UnderWay::Cut(command) => Some(command),
+        }
+    }
+
+    /// The ceiling that is being raised.
+    pub(crate) fn raise(&self) -> Option<Raise>
+        ensures { result ≡ self.now.reserving }
+    {
+        match self.under_way {
+            UnderWay::Nothing => None,
+            UnderWay::Raise(raise) => Some(raise),
+            UnderWay::First => None,
+            UnderWay::Cut(_) => None,
+        }
+    }
+
     /// Adds a command at the end and returns its ticket. Fails with `QueueFull`, then with
     /// `TicketsSpent`.
     pub(crate) fn push(&mut self, command: Command) -> Result<Ticket, SubmitFault>
@@ -127,12 +158,50 @@ impl Queue {
         Ok(ticket)
     }
 
-    /// Removes the first command. The queue is not empty.
+    /// Begins to raise a ceiling.
+    pub(crate) fn begin_raise(&mut self, raise: Raise)
+        ensures { self.new ≡ record self.old { under_way = None; reserving = Some raise } }
+    {
+        self.under_way = UnderWay::Raise(raise);
+    }
+
+    /// Begins to keep the first pending command.
+    pub(crate) fn begin_first(&mut self)
+        requires { 1 ≤ length self.old.waiting }
+        ensures { self.new
+            ≡ record self.old { under_way = first_command self.old.waiting; reserving = None } }
+    {
+        self.under_way = UnderWay::First;
+    }
+
+    /// A command that did not wait is cut short.
+    pub(crate) fn cut(&mut self, command: Command)
+        ensures { self.new ≡ record self.old { under_way = Some command; reserving = None } }
+    {
+        self.under_way = UnderWay::Cut(command);
+    }
+
+    /// The ceiling that is being raised, which is then no longer under way.
+    pub(crate) fn end_raise(&mut self) -> Option<Raise>
+        ensures value { result ≡ self.old.reserving }
+        ensures after { self.new ≡ record self.old { reserving = None } }
+    {
+        let raise = self.raise()?;
+        self.under_way = UnderWay::Nothing;
+        Some(raise)
+    }
+
+    /// Removes the first command. The queue is not empty. Nothing is under way then.
     pub(crate) fn pop(&mut self) -> Waiting
         requires { 1 ≤ length self.old.waiting }
         ensures waiting { self.old.waiting ≡ result ∷ self.new.waiting }
-        ensures given { self.new.given ≡ self.old.given }
+        ensures after { self.new ≡ record self.old {
+          waiting = self.new.waiting;
+          under_way = None;
+          reserving = None;
+        } }
     {
+        self.under_way = UnderWay::Nothing;
         self.waiting.remove(0)
     }
 }

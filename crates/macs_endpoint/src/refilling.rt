@@ -59,7 +59,7 @@ impl<D: SectorDisk> Endpoint<D> {
     fn turn_after_refill(&self) -> Turn
         ensures { result ≡ turn_after_refill self.now.turn self.now.reserving }
     {
-        match self.reserving {
+        match self.queue.raise() {
             Some(_) => Turn::Command,
             None => self.turn,
         }
@@ -119,7 +119,7 @@ impl<D: SectorDisk> Endpoint<D> {
         ensures { StartsRaise D.disk self.old (raise_of raise) result self.new }
     {
         start_ceiling(&mut self.store, &raise)?;
-        self.reserving = Some(raise);
+        self.queue.begin_raise(raise);
         Ok(())
     }
 
@@ -130,7 +130,7 @@ impl<D: SectorDisk> Endpoint<D> {
         requires work { IsAtRest self.old ⊎ IsReserving self.old }
         ensures { ReservationEnds D.disk self.old result self.new }
     {
-        let Some(raise) = self.reserving.take() else {
+        let Some(raise) = self.queue.end_raise() else {
             return Ok(());
         };
         self.store.finish()?;

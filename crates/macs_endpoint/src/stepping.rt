@@ -61,7 +61,7 @@ impl<D: SectorDisk> Endpoint<D> {
         if self.store.is_idle() {
             return self.begin();
         }
-        if self.reserving.is_some() {
+        if self.queue.raise().is_some() {
             self.go_on_reserving()
         } else {
             self.go_on_keeping()
@@ -135,14 +135,9 @@ impl<D: SectorDisk> Endpoint<D> {
         ensures { StartsFirst D.disk self.old first result self.new }
     {
         command_in_range(&first.command);
-        match self.store.check(&first.command) {
-            Ok(checked) => {
-                self.store.start_checked(&checked)?;
-                self.under_way = Some(checked);
-                Ok(())
-            }
-            Err(refusal) => Err(CommitFault::Refused(refusal)),
-        }
+        self.store.start_commit(&first.command)?;
+        self.queue.begin_first();
+        Ok(())
     }
 
     /// The next device call of a reservation under way. With the last one the ceiling is raised.
@@ -153,7 +148,7 @@ impl<D: SectorDisk> Endpoint<D> {
         match self.store.step() {
             Ok(progress) => match progress {
                 JournalStep::Finished => {
-                    let raise = self.reserving.take().unwrap();
+                    let raise = self.queue.end_raise().unwrap();
                     self.channels.raise(raise, &self.store);
                     self.turn = Turn::Command;
                     Ok(Step::Reserved)
@@ -161,7 +156,7 @@ impl<D: SectorDisk> Endpoint<D> {
                 _ => Ok(Step::Worked),
             },
             Err(_) => {
-                self.reserving = None; // The next opening finds it or not.
+                self.queue.end_raise(); // The next opening finds it or not.
                 Err(StepFault::Disk)
             }
         }
@@ -176,8 +171,7 @@ impl<D: SectorDisk> Endpoint<D> {
             Ok(progress) => match progress {
                 JournalStep::Finished => {
                     let done = self.queue.pop();
-                    let checked = self.under_way.take().unwrap();
-                    self.channels.follow(&checked, &self.store);
+                    self.channels.follow(&done.command, &self.store);
                     self.turn = Turn::Reservation;
                     Ok(Step::Done(done.ticket, Ok(())))
                 }

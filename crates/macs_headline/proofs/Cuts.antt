@@ -139,7 +139,8 @@ module _ (edition : Edition) (sectors : ℕ) (image : Image) where
       → FitsHere (state_with_under_way s c)
       → FitsHere (state_taking s c)
   taken s c running accepted fits =
-      held_surely FitsHere s.stopped (is_ok (apply s.edition s.identity s.config c)) (state_with_under_way s c) s running
+      held_surely FitsHere s.stopped (is_ok (apply s.edition s.identity s.config c))
+      (state_with_under_way s c) s running
       accepted fits
 
   -- before the call

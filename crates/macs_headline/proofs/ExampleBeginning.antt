@@ -44,7 +44,8 @@ moment = compaction_states used_image used_content used_records
 early : (k : ℕ) → k ≤ 258 → moment k ≡ settled_state used_image
 unfolding state_after_writes
 early k le = let none : k - 258 ≡ 0 = omega (arith, le) in
-    ap (λ (n : ℕ). state_after_writes (settled_state used_image) (take n (compaction_writes used_content used_records))) none
+    ap (λ (n : ℕ).
+    state_after_writes (settled_state used_image) (take n (compaction_writes used_content used_records))) none
 
 last_is : moment 261 ≡ state_after_writes (settled_state used_image) three_writes
 last_is = ap (λ (ws : List Write). state_after_writes (settled_state used_image) ws) writes_are
@@ -77,7 +78,8 @@ spared from to i same le = record {
   };
 } where
   durable_at : (k : ℕ) → (moment k).durable ≡ used_image
-  durable_at k = writes_durable (take (k - 258) (compaction_writes used_content used_records)) (settled_state used_image)
+  durable_at k =
+      writes_durable (take (k - 258) (compaction_writes used_content used_records)) (settled_state used_image)
 
 cleared : IsCleared (disk_through moment 0) (disk_through moment 258) 1
 cleared = record {

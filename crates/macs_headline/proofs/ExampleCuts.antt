@@ -153,7 +153,8 @@ working-holds = append-holds last_image last_content checked last_room tt last-f
     (append_states last_image last_content checked) 3 refl
 
 -- the next disk holds the same
-pub killed-holds : IsHolding killed_disk (place_behind last_content) (append_under_way checked) last_content ended_content
+pub killed-holds : IsHolding killed_disk (place_behind last_content) (append_under_way checked) last_content
+    ended_content
 killed-holds = append-holds last_image last_content checked last_room tt last-found (λ k. now working_disk) 0 refl
 
 pub killed-passed : IsPassedOn working_disk working_disk.clock killed_disk
@@ -223,7 +224,8 @@ moment = compaction_states full_image full_content full_snapshot
 early : (k : ℕ) → k ≤ 258 → moment k ≡ settled_state full_image
 unfolding state_after_writes
 early k le = let none : k - 258 ≡ 0 = omega (arith, le) in
-    ap (λ (n : ℕ). state_after_writes (settled_state full_image) (take n (compaction_writes full_content full_snapshot))) none
+    ap (λ (n : ℕ).
+    state_after_writes (settled_state full_image) (take n (compaction_writes full_content full_snapshot))) none
 
 last_is : moment 261 ≡ state_after_writes (settled_state full_image) three_writes
 last_is = ap (λ (ws : List Write). state_after_writes (settled_state full_image) ws) writes_are
@@ -261,7 +263,8 @@ spared from to i same le = record {
   };
 } where
   durable_at : (k : ℕ) → (moment k).durable ≡ full_image
-  durable_at k = writes_durable (take (k - 258) (compaction_writes full_content full_snapshot)) (settled_state full_image)
+  durable_at k =
+      writes_durable (take (k - 258) (compaction_writes full_content full_snapshot)) (settled_state full_image)
 
 cleared : IsCleared (disk_through moment 0) (disk_through moment 258) 1
 cleared = record {

@@ -713,7 +713,8 @@ fits_either image (inr found) = record {
   restart = inl (old_resumed this_edition up_to_this);
 }
 
-beginning_history : IsHolding beginning_disk (place_behind used_content) beginning_under_way used_content migrated_content
+beginning_history : IsHolding beginning_disk (place_behind used_content) beginning_under_way used_content
+    migrated_content
     → HasHistory this_edition beginning_disk old_lives
 beginning_history beginning = record {
   honest = refl;

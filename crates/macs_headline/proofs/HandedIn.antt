@@ -67,7 +67,8 @@ module _ (Failed : Command → Type 0) where
   same_held old new is held = subst (λ (s : State). IsHeld s) (sym is) held
 
   -- an endpoint that ran has the same under way, and the same waits
-  alike : (old new : State) → old.stopped ≡ false → new.under_way ≡ old.under_way → new.waiting ≡ old.waiting → IsHeld old
+  alike : (old new : State) → old.stopped ≡ false → new.under_way ≡ old.under_way → new.waiting ≡ old.waiting
+      → IsHeld old
       → IsHeld new
   alike old new running hand waiting held c is = elim (held c (sym hand ∙ is)) [
     | inl first ↦ inl (ap first_command waiting ∙ first)

@@ -99,7 +99,8 @@ old_journal image c s found stands one = record {
 }
 
 is_migration : (c : Content) (s : Standing) → IsMigrated c (compacted c (snapshot s)) s
-is_migration c s = record { area = refl; generation = refl; format = refl; identity = refl; count = refl; records = refl }
+is_migration c s =
+    record { area = refl; generation = refl; format = refl; identity = refl; count = refl; records = refl }
 
 by_migration : (old new : Disk) (c : Content) (s : Standing) → IsMigration old new c s → (image : Image)
     → LeftSince new old.clock image

@@ -304,7 +304,8 @@ none_there : {X : Type 0} (o : Option X) → o ≡ None → IsSome o → ⊥
 none_there {X} o none is = false≢true (sym (ap (λ (x : Option X). is_some x) none) ∙ is)
 
 begins_tx : (s new : State) (an : ℕ) (key : Key) (start : ℕ) (confidential : Bool) (offset : ℕ) → Restart s new
-    → s.under_way ≡ Some (TxInstall an key start confidential offset) → s.config.tx an ≡ None → IsSome (new.config.tx an)
+    → s.under_way ≡ Some (TxInstall an key start confidential offset) → s.config.tx an ≡ None
+    → IsSome (new.config.tx an)
     → IsSomeAnd (new.next an) (λ later. IsSkipped s.identity.tx_block start later × (later ≤ 2 ^ 32))
 begins_tx s new an key start confidential offset (inl up) asked free is =
     absurd (none_there (new.config.tx an) (ap (λ (c : Config). c.tx an) up.config ∙ free) is)

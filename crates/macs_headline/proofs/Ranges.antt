@@ -167,7 +167,8 @@ module _ (edition : Edition) where
     queue = ranged.queue;
   })
 
-  hand_range : (s : State) (c : Command) → IsCommand c → IsRanged edition s → IsRanged edition (state_with_under_way s c)
+  hand_range : (s : State) (c : Command) → IsCommand c → IsRanged edition s
+      → IsRanged edition (state_with_under_way s c)
   hand_range s c command ranged = record {
     same = ranged.same;
     nexts = ranged.nexts;

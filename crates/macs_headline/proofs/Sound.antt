@@ -52,7 +52,8 @@ either_core false x y s is other = other
 
 taking_core : (s : State) (c : Command) → core (state_taking s c) ≡ core s
 taking_core s c =
-    either_core (not s.stopped && is_ok (apply s.edition s.identity s.config c)) (state_with_under_way s c) s s refl refl
+    either_core (not s.stopped && is_ok (apply s.edition s.identity s.config c)) (state_with_under_way s c)
+    s s refl refl
 
 alone_core : (s : State) (c : Command) (waiting : List Waiting) → core (state_taking_alone s c waiting) ≡ core s
 alone_core s c [] = taking_core s c

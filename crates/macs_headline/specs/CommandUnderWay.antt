@@ -20,7 +20,8 @@ MayBegin cut waiting command = ⊥
 -- A command was under way after the last answer, or work on it may have begun in the interrupted call, of an endpoint
 -- that is not stopped; and there is no reason to refuse it.
 pub record WasBegun (exchanges : List Exchange) (last : State) (cut : Option Call) (command : Command) : Type 0 where
-  pub begun : (last.under_way ≡ Some command) ⊎ ((last.stopped ≡ false) × MayBegin cut (waiting_at_end exchanges) command)
+  pub begun : (last.under_way ≡ Some command)
+      ⊎ ((last.stopped ≡ false) × MayBegin cut (waiting_at_end exchanges) command)
   pub accepted : refusal_at last command ≡ None
 
 -- this holds of what is under way at any moment at which a life ends, inside a call or not

@@ -102,7 +102,8 @@ compacting_disk = disk_through (compaction_states full_image full_content full_s
 
 -- what is under way then: the next call writes the snapshot's third body
 abbrev pub compaction_under_way : UnderWay
-compaction_under_way = under_way.Compact (record { head = next_head full_content.head (length full_snapshot); stage = Body 2 })
+compaction_under_way =
+    under_way.Compact (record { head = next_head full_content.head (length full_snapshot); stage = Body 2 })
 
 -- What a power loss may leave then: any 512 octets in each of the three sectors.
 abbrev pub torn_image : (head first second : List ℕ) → Image

@@ -32,7 +32,8 @@ use Rattle.macs_headline.specs.Example.{narrow, own_frame, own_key, peer_frame, 
 use Rattle.macs_headline.specs.Example.{stay_strict, unguard, use_own, widen}
 use Rattle.macs_headline.specs.ExampleCuts.{IsRun, append_under_way, compacting_disk, compaction_under_way, killed_disk}
 use Rattle.macs_headline.specs.ExampleCuts.{place_behind, torn_image, widening_disk, working_disk}
-use Rattle.macs_headline.specs.ExampleDisk.{compacted_content, later_image, checked, cut_image, ended_content, ended_image}
+use Rattle.macs_headline.specs.ExampleDisk.{compacted_content, later_image, checked, cut_image, ended_content}
+use Rattle.macs_headline.specs.ExampleDisk.{ended_image}
 use Rattle.macs_headline.specs.ExampleDisk.{narrow_content, narrow_image, full_content, last_content, last_image}
 use Rattle.macs_headline.specs.ExampleDisk.{new_image, served_content, served_image, widened}
 use Rattle.macs_headline.specs.ExampleStanding.{checked_standing, full_standing, last_standing}
@@ -173,12 +174,14 @@ pub record IsWorkedHistory : Type 0 where
   pub widening_calls : IsRun narrow_image widening_disk
   pub left_open : MayLeave widening_disk served_image
   pub full : length full_content.records ≡ slots
-  pub compacting : IsHolding compacting_disk (place_behind full_content) compaction_under_way full_content compacted_content
+  pub compacting : IsHolding compacting_disk (place_behind full_content) compaction_under_way full_content
+      compacted_content
   pub torn : (head first second : List ℕ) → IsSector head → IsSector first → IsSector second
       → MayLeave compacting_disk (torn_image head first second)
   pub left_torn : MayLeave compacting_disk (cut_image 2)
   pub cut : (count : ℕ) → StandsFor this_edition (cut_image count) full_standing
-  pub compacted : (compacted_content.area ≡ 1) × (compacted_content.head.generation ≡ 2) × HasJournal later_image compacted_content
+  pub compacted : (compacted_content.area ≡ 1) × (compacted_content.head.generation ≡ 2)
+      × HasJournal later_image compacted_content
   pub working : IsHolding working_disk (place_behind last_content) (append_under_way checked) last_content ended_content
   pub working_calls : IsRun last_image working_disk
   pub killed : IsPassedOn working_disk working_disk.clock killed_disk

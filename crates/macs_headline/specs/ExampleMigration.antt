@@ -124,7 +124,8 @@ beginning_disk = disk_through (compaction_states used_image used_content used_re
 
 -- what is under way then: the next call writes the snapshot's third body
 abbrev pub beginning_under_way : UnderWay
-beginning_under_way = under_way.Compact (record { head = next_head used_content.head (length used_records); stage = Body 2 })
+beginning_under_way =
+    under_way.Compact (record { head = next_head used_content.head (length used_records); stage = Body 2 })
 
 -- the next opening completes that: the journal is in the second area, in format two
 abbrev pub migrated_content : Content

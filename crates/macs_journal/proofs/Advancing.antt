@@ -29,7 +29,8 @@ use Rattle.macs_journal.proofs.Working.{called, done-call}
 
 -- a journal, by what it keeps
 abbrev journal_of : {D : Type 0} → D → Place → UnderWay → Bool → JournalValue D
-journal_of device place under_way stopped = record { disk = device; place = place; under_way = under_way; stopped = stopped }
+journal_of device place under_way stopped =
+    record { disk = device; place = place; under_way = under_way; stopped = stopped }
 
 -- what `perform` answers: the call that comes next, or a fault
 abbrev then_comes : {Stage : Type 0} → Option Stage → Result (Option Stage) DeviceFault
@@ -161,7 +162,8 @@ made-none (Compact work) is records before after = absurd is
 -- so it advances with any that are lent
 module _ {D : Type 0} (disk_of : D → disk.Disk) (old new : JournalValue D) (records : List Record)
     (result : Result (Unit {0}) JournalFault)
-    (work : Appending) (under_way_is : old.under_way ≡ Append work) (advances : AdvancesAppend disk_of old result new) where
+    (work : Appending) (under_way_is : old.under_way ≡ Append work)
+    (advances : AdvancesAppend disk_of old result new) where
   was : left_of old.under_way ≡ append_left old.under_way
   was = left-same old.under_way (subst IsNoCompact (sym under_way_is) tt)
 

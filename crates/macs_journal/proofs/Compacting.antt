@@ -13,7 +13,8 @@ use Rattle.macs_journal.specs.Compacting.{Compacts, FindsUntil, HasOpenGates, Is
 use Rattle.macs_journal.specs.Compacting.{last_generation, next_head, with_nothing}
 use Rattle.macs_journal.specs.Found.{Content, HasJournal}
 use Rattle.macs_journal.specs.Stages.{AreGatesClosed, AtStage, IsRewritten, IsUnderWay, compact_left}
-use Rattle.macs_journal.specs.Stepping.{AtNextCall, IsCompactionUnderWay, IsSameTask, IsTaskUnderWay, Compaction, Starts, calls_of}
+use Rattle.macs_journal.specs.Stepping.{AtNextCall, IsCompactionUnderWay, IsSameTask, IsTaskUnderWay, Compaction}
+use Rattle.macs_journal.specs.Stepping.{Starts, calls_of}
 use Rattle.macs_journal.specs.Stepping.{place_then}
 use Rattle.macs_journal.specs.Value.{AreLent, HoldsContent, IsHolding, IsIdle, JournalValue, disk_in, generation}
 use Rattle.macs_journal.specs.Value.{is_stopped, left_of}
@@ -127,7 +128,8 @@ module _ {D : Type 0} (disk_of : D → disk.Disk) (old mid : JournalValue D) (re
   }
 
   -- what is under way is to be done from where it is
-  task-there : (under_way : UnderWay) → IsTaskUnderWay old (Compaction records) under_way → IsTaskUnderWay mid (Compaction records) under_way
+  task-there : (under_way : UnderWay) → IsTaskUnderWay old (Compaction records) under_way
+      → IsTaskUnderWay mid (Compaction records) under_way
   task-there Nothing task = absurd task
   task-there (Append work) task = absurd task
   task-there (Compact work) task = ap (λ (p : Place). next_head p.head (length records)) starts.place ∙ task
@@ -177,7 +179,8 @@ not-idle Nothing busy is = busy
 not-idle (Append work) busy is = busy
 not-idle (Compact work) busy is = cc
 
-pub idle-then : (head : Head) (under_way : UnderWay) → IsCompactOf head under_way → ¬ IsCompactionUnderWay under_way → under_way ≡ Nothing
+pub idle-then : (head : Head) (under_way : UnderWay) → IsCompactOf head under_way → ¬ IsCompactionUnderWay under_way
+    → under_way ≡ Nothing
 idle-then head Nothing of busy = refl
 idle-then head (Append work) of busy = absurd of
 idle-then head (Compact work) of busy = absurd (busy tt)
@@ -217,7 +220,8 @@ head-next head (Compact work) (Compact later) busy of same = same (λ is. cc) �
 abbrev place-under : Head → Place → Place
 place-under head place = record { area = other_area place.area; head = head; free = head.count }
 
-place-then : (place : Place) (head : Head) (under_way : UnderWay) → IsCompactionUnderWay under_way → IsCompactOf head under_way
+place-then : (place : Place) (head : Head) (under_way : UnderWay) → IsCompactionUnderWay under_way
+    → IsCompactOf head under_way
     → place_then place under_way ≡ place-under head place
 place-then place head Nothing busy of = absurd busy
 place-then place head (Append work) busy of = absurd busy
@@ -364,7 +368,8 @@ module _ {D : Type 0} (disk_of : D → disk.Disk) (old new : JournalValue D) (re
           (compacted before records)) (sym idle)
           (subst (λ (p : Place). IsHolding (disk_in disk_of new) p Nothing (compacted before records)
           (compacted before records)) (sym place) (holds-new honest before holds));
-      kept = λ honest before holds. kept-image (disk_in disk_of new) (compacted_place old.place (length records)) Nothing
+      kept =
+          λ honest before holds. kept-image (disk_in disk_of new) (compacted_place old.place (length records)) Nothing
           (compacted before records) (holds-new honest before holds);
       gates = λ honest.
           way-gates (disk_in disk_of old) (disk_in disk_of new) area head records begun.few (rewritten honest);

@@ -43,9 +43,11 @@ made-of : (old : Disk) (place : Place) (under_way : UnderWay) (work : Compacting
 made-of old place under_way work records before after under_way_is holding =
     subst (λ (h : UnderWay). IsMadeOf h records before after) under_way_is holding.made
 
-module _ (old : Disk) (place : Place) (under_way : UnderWay) (work : Compacting) (records : List Record) (before after : Content)
+module _ (old : Disk) (place : Place) (under_way : UnderWay) (work : Compacting) (records : List Record)
+    (before after : Content)
     (under_way_is : under_way ≡ Compact work)
-    (holding : HoldsWith old place under_way records before after) (area : ℕ) (area_is : area ≡ other_area place.area) where
+    (holding : HoldsWith old place under_way records before after) (area : ℕ)
+    (area_is : area ≡ other_area place.area) where
   the-area : other_area before.area ≡ area
   the-area = ap other_area holding.holds.at.area ∙ sym area_is
 
@@ -127,7 +129,8 @@ module _ (old : Disk) (place : Place) (under_way : UnderWay) (work : Compacting)
         })
 
 -- records come into hand
-pub compaction-under_way : (d : Disk) (place : Place) (under_way : UnderWay) (work : Compacting) (c : Content) (records : List Record)
+pub compaction-under_way : (d : Disk) (place : Place) (under_way : UnderWay) (work : Compacting) (c : Content)
+    (records : List Record)
     → work.head ≡ next_head place.head (length records) → work.stage ≡ ReadGate 0 → length records ≤ slots
     → IsHolding d place under_way c c
     → IsHolding d place (Compact work) c (compacted c records)

@@ -110,7 +110,8 @@ module _ {D : Type 0} (disk_of : D → disk.Disk) (old new : D) (large : least_s
         → meaning ≡ Journal place
         → IsBehind meaning (read_in meaning room)
         → (disk.IsHonest (disk_of new) → MeaningIs (disk.now (disk_of old)).seen meaning (read_in meaning room))
-        → Recovers disk_of old (record { disk = new; place = place; under_way = Nothing; stopped = false }) format identity
+        → Recovers disk_of old (record { disk = new; place = place; under_way = Nothing; stopped = false })
+        format identity
         count (take place.free room)
     recovers-found meaning place room format identity count form whose counted is behind found =
         let stands : IsBehind (Journal place) (take place.free room) =

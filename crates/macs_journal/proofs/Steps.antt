@@ -85,7 +85,8 @@ done = Ok tt
 
 module _ {D : Type 0} (disk_of : D → disk.Disk) (old new : JournalValue D) (snapshot : List Record)
     (runs : is_stopped old ≡ false) (busy : ¬ IsIdle old) (advances : Advances disk_of old snapshot done new) where
-  went-on : (¬ IsIdle new) → ((d : disk.Disk) → (before after : Content) → ComesTo d new.place new.under_way before after
+  went-on : (¬ IsIdle new)
+      → ((d : disk.Disk) → (before after : Content) → ComesTo d new.place new.under_way before after
       → IsHolding d new.place new.under_way before after)
       → Steps disk_of old snapshot (answers Going) new
   went-on still holds = record {
@@ -149,7 +150,8 @@ module _ {D : Type 0} (disk_of : D → disk.Disk) (old new : JournalValue D) (sn
         goes_on = search rules;
         done = λ is honest before after holding. comes honest before after holding;
         kept = λ is honest before after holding image left.
-            kept-image (disk_in disk_of new) new.place new.under_way after (comes honest before after holding) image left;
+            kept-image (disk_in disk_of new) new.place new.under_way after
+            (comes honest before after holding) image left;
       }
 
   pub steps-done : Steps disk_of old snapshot (answers (step_of new.under_way)) new

@@ -41,4 +41,5 @@ compaction-made (Compact work) records before = refl
 pub compaction-with : (d : Disk) (place : Place) (under_way : UnderWay) (records : List Record) (before : Content)
     → IsHolding d place under_way before (compacted before records)
     → HoldsWith d place under_way records before (compacted before records)
-compaction-with d place under_way records before holding = record { holds = holding; made = compaction-made under_way records before }
+compaction-with d place under_way records before holding =
+    record { holds = holding; made = compaction-made under_way records before }

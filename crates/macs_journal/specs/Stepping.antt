@@ -97,7 +97,8 @@ IsSameTask old new = ⊥
 abbrev pub place_then : Place → UnderWay → Place
 place_then place under_way.Nothing = place
 place_then place (under_way.Append work) = record place { free = place.free + 1 }
-place_then place (under_way.Compact work) = record { area = other_area place.area; head = work.head; free = work.head.count }
+place_then place (under_way.Compact work) =
+    record { area = other_area place.area; head = work.head; free = work.head.count }
 
 -- an append is under way
 abbrev pub IsAppendUnderWay : UnderWay → Type 0
@@ -224,7 +225,8 @@ pub record Steps {D : Type 0} (disk_of : D → disk.Disk) (old : JournalValue D)
   pub call : OnOk result ((¬ IsIdle old) → (disk_in disk_of new).clock ≡ (disk_in disk_of old).clock + 1)
   -- fewer are left, and exactly one fewer of an append
   pub left : OnOk result ((¬ IsIdle old) → left_of new.under_way + 1 ≤ left_of old.under_way)
-  pub exact : OnOk result ((¬ IsIdle old) → IsNoCompact old.under_way → left_of new.under_way + 1 ≡ left_of old.under_way)
+  pub exact : OnOk result ((¬ IsIdle old) → IsNoCompact old.under_way
+      → left_of new.under_way + 1 ≡ left_of old.under_way)
   -- the content before the work or after it at any moment, and the one after it once it is finished
   pub any_moment : IsHonest (disk_in disk_of new) → (before after : Content)
       → HoldsWith (disk_in disk_of old) old.place old.under_way snapshot before after

@@ -37,7 +37,8 @@ pub(crate) fn write_record<D: SectorDisk>(
     requires size { least_sectors ≤ (D.disk disk.old).sectors }
     ensures call { IsDeviceCall (D.disk disk.old) (D.disk disk.new) result }
     ensures does { IsHonest (D.disk disk.new) → (octets : List ℕ) × IsSectorOf value.now octets
-        × Writes (now (D.disk disk.old)) (now (D.disk disk.new)) (slot_body area slot) octets result }
+        × Writes (now (D.disk disk.old)) (now (D.disk disk.new)) (slot_body area slot)
+        octets result }
 {
     record_in_range(value);
     disk.write(area.slot_body(slot), &encode(value))

@@ -8,9 +8,9 @@ ghost use Rattle.macs_journal.specs.Stepping.{IsCompactionUnderWay};
 ghost use Rattle.macs_journal.specs.Value.{IsIdle};
 
 use crate::fault::JournalFault;
-use crate::under_way::UnderWay;
 use crate::journal::Journal;
 use crate::record_source::RecordSource;
+use crate::under_way::UnderWay;
 use macs_disk::SectorDisk;
 use macs_record::{Format, Head, Record};
 

@@ -43,11 +43,7 @@ pub enum Contents {
 }
 
 /// Reads the sector with this number, counting from the start of the file.
-fn read_sector<F: DiskFile>(
-    file: &mut F,
-    number: u64,
-    sector: &mut [u8; SECTOR],
-) -> io::Result<()>
+fn read_sector<F: DiskFile>(file: &mut F, number: u64, sector: &mut [u8; SECTOR]) -> io::Result<()>
     requires { 512 * number + 512 < 2 ^ 64 }
     ensures steady { (F.file file.new).behaves ≡ (F.file file.old).behaves }
     ensures same { Behaves (F.file file.old) → F.file file.new ≡ F.file file.old }
@@ -67,12 +63,7 @@ fn has_front(sector: &[u8; SECTOR], front: &[u8; 8]) -> bool
 }
 
 /// Whether a file of `sectors` sectors has one with this number, and it begins with `front`.
-fn begins<F: DiskFile>(
-    file: &mut F,
-    sectors: u64,
-    number: u64,
-    front: &[u8; 8],
-) -> io::Result<bool>
+fn begins<F: DiskFile>(file: &mut F, sectors: u64, number: u64, front: &[u8; 8]) -> io::Result<bool>
     requires { 512 * sectors < 2 ^ 64 }
     ensures steady { (F.file file.new).behaves ≡ (F.file file.old).behaves }
     ensures same { Behaves (F.file file.old) → F.file file.new ≡ F.file file.old }

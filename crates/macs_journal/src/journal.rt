@@ -11,7 +11,8 @@ ghost use Rattle.macs_journal.specs.Areas.{gate, least_sectors, slot_body, slots
 ghost use Rattle.macs_journal.specs.Found.{Content, HasJournal, content_with_record};
 ghost use Rattle.macs_journal.specs.Appending.{HasEitherJournal};
 ghost use Rattle.macs_journal.specs.Stepping.{AdvancesAppend};
-ghost use Rattle.macs_journal.specs.Value.{FitsUnderWay, HoldsContent, IsHolding, IsIdle, IsNoCompact};
+ghost use Rattle.macs_journal.specs.Value.{FitsUnderWay, HoldsContent, IsHolding, IsIdle};
+ghost use Rattle.macs_journal.specs.Value.{IsNoCompact};
 ghost use Rattle.macs_journal.specs.Value.{JournalValue, append_left, current_area, device_in};
 ghost use Rattle.macs_journal.specs.Value.{disk_in, generation, is_stopped, used_slots};
 ghost use Rattle.macs_journal.specs.Work.{IsSpared, IsWorkOf};
@@ -21,8 +22,8 @@ ghost use Rattle.macs_journal.specs.declared.under_way.UnderWay.TheVariants.{Not
 use crate::appending::perform;
 use crate::area::SLOTS;
 use crate::fault::JournalFault;
-use crate::under_way::UnderWay;
 use crate::place::Place;
+use crate::under_way::UnderWay;
 use macs_disk::SectorDisk;
 use macs_record::Record;
 use std::marker::Model;
@@ -52,7 +53,8 @@ impl<D: SectorDisk> Journal<D> {
     pub(crate) fn new(disk: D, place: Place) -> Journal<D>
         requires size { least_sectors ≤ (D.disk disk).sectors }
         requires few { place.free ≤ slots }
-        ensures { result ≡ record { disk = disk; place = place; under_way = Nothing; stopped = false } }
+        ensures { result
+            ≡ record { disk = disk; place = place; under_way = Nothing; stopped = false } }
     {
         Journal {
             disk,

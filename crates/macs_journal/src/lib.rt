@@ -13,7 +13,6 @@ mod contents;
 mod fault;
 mod formatting;
 mod gates;
-mod under_way;
 mod head_gate;
 mod heads;
 mod journal;
@@ -23,6 +22,7 @@ mod record_source;
 mod recovery;
 mod slots;
 mod stepping;
+mod under_way;
 mod work;
 
 pub use area::{LEAST_SECTORS, SLOTS};

@@ -14,10 +14,10 @@ use crate::compact_calls::perform;
 use crate::compact_stage::CompactStage;
 use crate::compaction::next_head;
 use crate::fault::JournalFault;
-use crate::under_way::{Appending, Compacting, UnderWay};
 use crate::journal::Journal;
 use crate::place::Place;
 use crate::record_source::RecordSource;
+use crate::under_way::{Appending, Compacting, UnderWay};
 use crate::work::{JournalStep, Work};
 use macs_disk::SectorDisk;
 use macs_record::laws::record_in_range;
@@ -174,7 +174,8 @@ impl<D: SectorDisk> Journal<D> {
                 Ok(())
             }
             Err(_) => {
-                self.under_way = UnderWay::Nothing; // The next recovery finds the earlier records or these.
+                // The next recovery finds the earlier records or these.
+                self.under_way = UnderWay::Nothing;
                 self.stopped = true;
                 Err(JournalFault::Disk)
             }

@@ -1,5 +1,6 @@
 -- What is said of the disk in a file, and how that fails.
-use Rattle.std.proofs.Common.{◌≡◌, ◌≢◌, ◌≤◌, ◌⊎◌, ◌∙◌, inl, inr, ℕ, Bool, List, length, Option, Ok, Err, ap, refl, subst}
+use Rattle.std.proofs.Common.{◌≡◌, ◌≢◌, ◌≤◌, ◌⊎◌, ◌∙◌, inl, inr, ℕ, Bool, List, length, Option, Ok, Err, ap, refl}
+use Rattle.std.proofs.Common.{subst}
 use Rattle.std.proofs.Common.{sym}
 use Rattle.std.specs.Io.KnownBytes.{Appends}
 use Rattle.macs_config.specs.Config.{this_edition}

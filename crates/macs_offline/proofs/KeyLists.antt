@@ -23,7 +23,8 @@ module _ (list digits behind : List ℕ) (i j : ℕ) (has : HasTextAt digits lis
   behind-first lacks (before, between, after, e) =
       let rest = between ++ (formatted ++ after) in
       let later : length before < i → ⊥ =
-      λ early. lacks (length before) early rest (ap (drop (length before)) e ∙ drop-append_seam before (digits ++ rest)) in
+      λ early.
+      lacks (length before) early rest (ap (drop (length before)) e ∙ drop-append_seam before (digits ++ rest)) in
       let within : j ≤ length (before ++ digits) =
       omega (arith, later, has.ends, length-append before digits) in
       let left = drop j (before ++ digits) in (

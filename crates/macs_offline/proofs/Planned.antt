@@ -119,7 +119,8 @@ module _ (end : End) (stage : Stage) where
 
   not-planned-of : {F : Type 0} (left_in : F → Option (List ℕ)) (name : List ℕ) (file : F) (failure : Failure)
       → IsLinkUnread name failure ⊎ IfSome (left_in file) (λ octets. SaysWhy end stage octets failure)
-      → IsLinkUnread name failure ⊎ ((octets : List ℕ) × SaysWhy end stage octets failure) → EndsOfLink left_in name failure
+      → IsLinkUnread name failure ⊎ ((octets : List ℕ) × SaysWhy end stage octets failure)
+      → EndsOfLink left_in name failure
   not-planned-of left_in name file failure (inl unread) ended = inl unread
   not-planned-of left_in name file failure (inr fault) (inl unread) = inl unread
   not-planned-of left_in name file failure (inr fault) (inr (octets, says)) = inr (octets, says, inr (file, fault))

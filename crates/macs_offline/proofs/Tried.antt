@@ -1,6 +1,7 @@
 -- Commands that were given to an endpoint in memory, and how that fails.
 use Rattle.std.proofs.Common.{◌≡◌, ◌⊎◌, ◌∙◌, ◌+◌, ◌<◌, ◌≤◌, ◌/◌, ◌%◌, ◌++◌, inl, inr, ℕ, suc, Bool, if◌then◌else◌}
-use Rattle.std.proofs.Common.{is_some, List, [], ◌∷◌, length, take, drop, get_or, Option, Some, append_assoc, ap, subst, sym, arith}
+use Rattle.std.proofs.Common.{is_some, List, [], ◌∷◌, length, take, drop, get_or, Option, Some, append_assoc, ap, subst}
+use Rattle.std.proofs.Common.{sym, arith}
 use Rattle.std.proofs.Common.{◌≢◌, ◌==◌, codes, false, true, refl, None, Result, Ok, Err, IfOk}
 use Rattle.std.specs.Borrow.{Bor}
 use Rattle.std.specs.Io.KnownBytes.{Appends}

@@ -161,7 +161,8 @@ fn report_fault(alloc: Global, disk: &mut MemDisk) -> Result<Said, Failure>
     }
 }
 
-/// The report on a disk on which no journal was found, for this fault: the first fault of a bad one.
+/// The report on a disk on which no journal was found, for this fault: the first fault of a bad
+/// one.
 #[inline(never)]
 fn report_refused(alloc: Global, fault: JournalFault, disk: &mut MemDisk) -> Result<Said, Failure>
     requires room { fault ≡ JournalFault.BadJournal → least_sectors ≤ (disk_of disk.old).sectors }

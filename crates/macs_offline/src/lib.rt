@@ -1,5 +1,5 @@
-//! The subcommands that write no disk file: `open`, `key`, `plan`, `inspect`, `check` and `examine`; and
-//! the files of commands, captures and disks that all subcommands open.
+//! The subcommands that write no disk file: `open`, `key`, `plan`, `inspect`, `check` and
+//! `examine`; and the files of commands, captures and disks that all subcommands open.
 #![tactic(auto)]
 
 mod applying;

@@ -12,7 +12,8 @@ const MOST: usize = 64;
 
 /// The first 64 characters of a key, or all.
 fn front_of(alloc: Global, key: &str) -> Result<String, AllocError>
-    ensures { IfOk result (λ front. string_bytes front ≡ encode_utf8_all (take 64 (chars key.now))) }
+    ensures { IfOk result
+        (λ front. string_bytes front ≡ encode_utf8_all (take 64 (chars key.now))) }
 {
     key.chars().take(MOST).collect(alloc)
 }

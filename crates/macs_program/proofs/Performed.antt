@@ -186,12 +186,15 @@ module _ {F W : Type 0} (state_of : F → FileState) (left_in : F → Option (Li
 
   pub formats : (disk sci : Bor (List ℕ)) (tx_block rx_block : ℕ) (block : Option (Bor (List ℕ))) (is_over : Bool)
       → IfOk result
-      (Does state_of left_in (OnDisk (Format disk sci tx_block rx_block block is_over)) input (contents old) (contents new))
+      (Does state_of left_in (OnDisk (Format disk sci tx_block rx_block block is_over)) input (contents old)
+      (contents new))
       → IfErr result (λ failure. failure_status failure ≡ ends.Usage
       → WrongValues (OnDisk (Format disk sci tx_block rx_block block is_over)) × (new ≡ old)) → Silent
-      → IfErr result (FailsAs state_of left_in (OnDisk (Format disk sci tx_block rx_block block is_over)) input (contents old)
+      → IfErr result
+      (FailsAs state_of left_in (OnDisk (Format disk sci tx_block rx_block block is_over)) input (contents old)
       (contents new)) → Broken
-      → Performs state_of left_in contents failed (OnDisk (Format disk sci tx_block rx_block block is_over)) input old result new
+      → Performs state_of left_in contents failed (OnDisk (Format disk sci tx_block rx_block block is_over)) input
+      old result new
   formats disk sci tx_block rx_block block is_over done usage silent fails broken = record {
     does = done;
     status = IfOk-weaker result _ _
@@ -235,9 +238,11 @@ module _ {F W : Type 0} (state_of : F → FileState) (left_in : F → Option (Li
   }
 
   pub protects : (disk from to : Bor (List ℕ)) (is_all : Bool)
-      → IfOk result (Does state_of left_in (OnFrames (Protect disk from to is_all)) input (contents old) (contents new)) → NoUsage
+      → IfOk result
+      (Does state_of left_in (OnFrames (Protect disk from to is_all)) input (contents old) (contents new)) → NoUsage
       → Silent
-      → IfErr result (FailsAs state_of left_in (OnFrames (Protect disk from to is_all)) input (contents old) (contents new))
+      → IfErr result
+      (FailsAs state_of left_in (OnFrames (Protect disk from to is_all)) input (contents old) (contents new))
       → Broken
       → Performs state_of left_in contents failed (OnFrames (Protect disk from to is_all)) input old result new
   protects disk from to is_all done other silent fails broken = record {
@@ -252,9 +257,11 @@ module _ {F W : Type 0} (state_of : F → FileState) (left_in : F → Option (Li
   }
 
   pub validates : (disk from to : Bor (List ℕ)) (is_all : Bool) → IfOk result
-      (Does state_of left_in (OnFrames (Validate disk from to is_all false)) input (contents old) (contents new)) → NoUsage
+      (Does state_of left_in (OnFrames (Validate disk from to is_all false)) input (contents old) (contents new))
+      → NoUsage
       → Silent
-      → IfErr result (FailsAs state_of left_in (OnFrames (Validate disk from to is_all false)) input (contents old) (contents new))
+      → IfErr result
+      (FailsAs state_of left_in (OnFrames (Validate disk from to is_all false)) input (contents old) (contents new))
       → Broken
       → Performs state_of left_in contents failed (OnFrames (Validate disk from to is_all false)) input old result new
   validates disk from to is_all done other silent fails broken = record {
@@ -269,9 +276,11 @@ module _ {F W : Type 0} (state_of : F → FileState) (left_in : F → Option (Li
   }
 
   pub judges : (disk from to : Bor (List ℕ)) (is_all : Bool)
-      → IfOk result (Does state_of left_in (OnFrames (Validate disk from to is_all true)) input (contents old) (contents new))
+      → IfOk result
+      (Does state_of left_in (OnFrames (Validate disk from to is_all true)) input (contents old) (contents new))
       → NoUsage → IfErr result (λ failure. failure ≢ Output → PrintsVerdicts (contents old) (contents new))
-      → IfErr result (FailsAs state_of left_in (OnFrames (Validate disk from to is_all true)) input (contents old) (contents new))
+      → IfErr result
+      (FailsAs state_of left_in (OnFrames (Validate disk from to is_all true)) input (contents old) (contents new))
       → Broken
       → Performs state_of left_in contents failed (OnFrames (Validate disk from to is_all true)) input old result new
   judges disk from to is_all done other front fails broken = record {
@@ -295,7 +304,8 @@ module _ {F W : Type 0} (state_of : F → FileState) (left_in : F → Option (Li
       (sym is) performs
 
   pub relays : (disk : Bor (List ℕ)) (controlled common : WireEnds) (running : Running)
-      → IfOk result (Does state_of left_in (OnFrames (Relay disk controlled common running)) input (contents old) (contents new))
+      → IfOk result
+      (Does state_of left_in (OnFrames (Relay disk controlled common running)) input (contents old) (contents new))
       → IfErr result (λ failure. failure_status failure ≡ ends.Usage
       → WrongValues (OnFrames (Relay disk controlled common running)) × (new ≡ old)) → Silent
       → IfErr result (FailsAs state_of left_in (OnFrames (Relay disk controlled common running)) input (contents old)

@@ -170,7 +170,8 @@ module _ {D W : Type 0} (disk_of : D → Disk) (contents : W → Option (List �
       })
 
   -- between two new wires, it ran and was reported
-  pub frames-relayed : (answer : Result RelaySummary RefillFault) (new : EndpointValue D) (controlled common : WireState)
+  pub frames-relayed : (answer : Result RelaySummary RefillFault) (new : EndpointValue D)
+      (controlled common : WireState)
       (result : Result Status Failure) (after : W)
       → IsRun disk_of course (relay_of old new_wire new_wire empty_lane empty_lane) answer new controlled common
       → Reports contents has_failed answer before result after

@@ -71,7 +71,8 @@ Does state_of left_in (OnDisk (Format disk sci tx_block rx_block block is_over))
     × Appends before after (line (codes "formatted")) × (status ≡ ends.Done)
 Does state_of left_in (OnDisk (Apply disk file)) input before after status =
     AppliesIn state_of left_in before after status
-Does state_of left_in (OnDisk (Show disk)) input before after status = ShowsIn state_of before after × (status ≡ ends.Done)
+Does state_of left_in (OnDisk (Show disk)) input before after status = ShowsIn state_of before after
+    × (status ≡ ends.Done)
 Does state_of left_in (OnFrames (Protect disk from to is_all)) input before after status =
     (summary : Summary) × PassesIn state_of Controlled summary
     × Appends before after (summary_line Controlled summary) × (status ≡ pass_status is_all summary)
@@ -87,9 +88,11 @@ Does state_of left_in (OnFrames (Relay disk controlled common running)) input be
     × Appends before after (relay_line summary) × (status ≡ ends.Done)
 Does state_of left_in (Tool (Ask path asked is_json)) input before after status =
     PrintsAnswer asked is_json before after status
-Does state_of left_in (Tool (Key is_long)) input before after status = GivesKey is_long before after × (status ≡ ends.Done)
+Does state_of left_in (Tool (Key is_long)) input before after status = GivesKey is_long before after
+    × (status ≡ ends.Done)
 Does state_of left_in (Tool (Inspect from)) input before after status = Inspects before after × (status ≡ ends.Done)
-Does state_of left_in (Tool (Check file disk)) input before after status = Checks state_of left_in disk before after status
+Does state_of left_in (Tool (Check file disk)) input before after status =
+    Checks state_of left_in disk before after status
 Does state_of left_in (Tool (Plan file end stage)) input before after status =
     PrintsPlan left_in (end_of end) (stage_of stage) before after × (status ≡ ends.Done)
 Does state_of left_in (Tool (Examine disk is_json)) input before after status =
@@ -119,7 +122,8 @@ HasPrinted action before after = after ≡ before
 abbrev pub WrongValues : Action → Type 0
 WrongValues (OnDisk (Format disk sci tx_block rx_block block is_over)) =
     (fault : ValueFault) × ValueFaultHolds sci.now tx_block rx_block (option_map (λ text. text.now) block) fault
-WrongValues (OnFrames (Relay disk controlled common running)) = (fault : AddressFault) × AddressFaultHolds controlled common fault
+WrongValues (OnFrames (Relay disk controlled common running)) = (fault : AddressFault)
+    × AddressFaultHolds controlled common fault
 WrongValues action = ⊥
 
 -- How `open` fails: a read failed, or the input, of which at most 20,001 octets are read, has this first fault; or
@@ -144,14 +148,17 @@ FailsAs state_of left_in (OnDisk (Format disk sci tx_block rx_block block is_ove
     ⊎ (failure ≡ Output)
 FailsAs state_of left_in (OnDisk (Apply disk file)) octets before after failure = OpeningFails state_of failure
     ⊎ BreaksOffIn state_of left_in before after failure
-FailsAs state_of left_in (OnDisk (Show disk)) octets before after failure = OpeningFails state_of failure ⊎ (failure ≡ Memory)
+FailsAs state_of left_in (OnDisk (Show disk)) octets before after failure = OpeningFails state_of failure
+    ⊎ (failure ≡ Memory)
     ⊎ (failure ≡ Output)
-FailsAs state_of left_in (OnFrames (Protect disk from to is_all)) octets before after failure = OpeningFails state_of failure
+FailsAs state_of left_in (OnFrames (Protect disk from to is_all)) octets before after failure =
+    OpeningFails state_of failure
     ⊎ PassEndsIn state_of Controlled failure
 FailsAs state_of left_in (OnFrames (Validate disk from to is_all false)) octets before after failure =
     OpeningFails state_of failure
     ⊎ PassEndsIn state_of Common failure
-FailsAs state_of left_in (OnFrames (Validate disk from to is_all true)) octets before after failure = OpeningFails state_of failure
+FailsAs state_of left_in (OnFrames (Validate disk from to is_all true)) octets before after failure =
+    OpeningFails state_of failure
     ⊎ JudgingEndsIn state_of failure
 FailsAs state_of left_in (OnFrames (Relay disk controlled common running)) octets before after failure =
     ((fault : AddressFault) × (failure ≡ Address fault)
@@ -165,7 +172,8 @@ FailsAs state_of left_in (Tool (Check file disk)) octets before after failure =
     CheckEnds state_of left_in file.now disk failure
 FailsAs state_of left_in (Tool (Plan file end stage)) octets before after failure =
     PlanFails left_in file.now (end_of end) (stage_of stage) failure
-FailsAs state_of left_in (Tool (Examine disk is_json)) octets before after failure = ExamineFails state_of disk.now failure
+FailsAs state_of left_in (Tool (Examine disk is_json)) octets before after failure =
+    ExamineFails state_of disk.now failure
 FailsAs state_of left_in (Tool About) octets before after failure = (failure ≡ Memory) ⊎ (failure ≡ Output)
 
 -- An action is carried out, with one of these two statuses, or fails. A usage failure is that of a wrong value, and

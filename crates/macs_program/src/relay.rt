@@ -52,8 +52,8 @@ impl<T: Files + Net + Clock + Env> RelayWires<'_, T> {
     ghost use Rattle.macs_program.specs.Relaying.{attended, turns_of, unattended};
     ghost use Rattle.macs_program.specs.Tasks.{DoesRelay};
 
-    /// A desk attends the relay. The program's parent is notified once everything is bound, and when
-    /// the relay ends.
+    /// A desk attends the relay. The program's parent is notified once everything is bound, and
+    /// when the relay ends.
     fn attend<D: SectorDisk, W: Stream>(
         self,
         endpoint: &mut Endpoint<D>,

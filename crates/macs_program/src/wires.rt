@@ -39,8 +39,8 @@ fn with_buffer<N: Net>(net: &N, mut wire: UdpWire<Global>, octets: u32) -> UdpWi
     wire
 }
 
-/// Binds a wire, and requests its buffer size if one is given. Fails first with `Memory` if there is
-/// none for a frame of the wire; then with `Wire` if the own address cannot be bound.
+/// Binds a wire, and requests its buffer size if one is given. Fails first with `Memory` if there
+/// is none for a frame of the wire; then with `Wire` if the own address cannot be bound.
 fn bind_wire<N: Net>(
     net: &N,
     alloc: Global,

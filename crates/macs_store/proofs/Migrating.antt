@@ -28,7 +28,8 @@ use Rattle.macs_journal.proofs.Holding.{held-image, held-ready}
 use Rattle.macs_journal.proofs.Spared.{Spared-on}
 use Rattle.macs_journal.proofs.Untouched.{spared-from-first}
 use Rattle.macs_store.specs.Found.{IsOld, IsToMigrate, IsUnfitTo, StandingIs, StandsFor}
-use Rattle.macs_store.specs.Opening.{CompactsHeld, HasNoneToMigrate, IsMigration, IsUnfit, MigrationLeaves, OpeningLeaves}
+use Rattle.macs_store.specs.Opening.{CompactsHeld, HasNoneToMigrate, IsMigration, IsUnfit, MigrationLeaves}
+use Rattle.macs_store.specs.Opening.{OpeningLeaves}
 use Rattle.macs_store.specs.Opening.{Opens, RefusesDisk, TakesUp, WritesNothing}
 use Rattle.macs_store.specs.Replay.{meaning_of, migrates, reading_of, snapshot_of}
 use Rattle.macs_store.specs.Snapshot.{snapshot}
@@ -368,8 +369,10 @@ module _ {D : Type 0} (disk_of : D → Disk) (disk : D) (sound : IsHonest (disk_
                 migrated = λ honest c to.
                     this_one old_format done t begins (λ c x. IsMigration old after c x
                     × IsReady (now after) (compacted c (snapshot x))) (before honest) c
-                    (standing_in t) to
-                    (migration old_format done t begins honest, held-ready disk_of t.journal later (holds_later honest));
+                    (standing_in t) to (
+                      migration old_format done t begins honest,
+                      held-ready disk_of t.journal later (holds_later honest),
+                    );
               };
               running = begins.compacts.running.0;
               idle = begins.under_way ∙ idle;

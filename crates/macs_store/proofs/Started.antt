@@ -151,7 +151,8 @@ module _ {D : Type 0} (disk_of : D → Disk) (s : StoreValue D) (idle : IsIdle s
           content = stored.content;
           next = compacted stored.content records;
           holding =
-              compaction-with (disk_of j.disk) j.place j.under_way records stored.content (starts.holds stored.content holds);
+              compaction-with (disk_of j.disk) j.place j.under_way records stored.content
+              (starts.holds stored.content holds);
           stands = stored.stands;
           becomes = meaning-compacted this_edition stored.content (standing_in s) records refl stored.stands stands;
           leads = tt;

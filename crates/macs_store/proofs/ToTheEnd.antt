@@ -308,7 +308,8 @@ module _ {D : Type 0} (disk_of : D → Disk) (old : StoreValue D) (idle : IsIdle
     pub failed-commits : (at : JournalFault) (new : StoreValue D) → Finishes disk_of mid (Err at) new
         → Commits disk_of old command (Err commit_fault.Disk) new
     failed-commits at new finishes = elim finishes.names [
-      | inl stopped ↦ absurd (end-runs disk_of old starts.under_way.0 mid starts.under_way.2 (Err at) new finishes stopped)
+      | inl stopped ↦ absurd
+          (end-runs disk_of old starts.under_way.0 mid starts.under_way.2 (Err at) new finishes stopped)
       | inr failed ↦ cut-commits new
           (subst (λ (x : Result (Unit {0}) JournalFault). Finishes disk_of mid x new) failed finishes)
     ]

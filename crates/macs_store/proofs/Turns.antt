@@ -275,7 +275,8 @@ module _ {D : Type 0} (disk_of : D → Disk) (s : StoreValue D) (runs : is_stopp
         holding = record {
           holds = steps.done refl honest stored.content stored.next
               (append-lent records stored.content stored.next stored.holding);
-          made = subst (λ (h : journal_under_way.UnderWay). IsMadeOf h (snapshot (standing_of held)) stored.next stored.next)
+          made = subst
+              (λ (h : journal_under_way.UnderWay). IsMadeOf h (snapshot (standing_of held)) stored.next stored.next)
               (sym (steps.finished refl)) tt;
         };
         stands = means;
@@ -334,7 +335,8 @@ module _ {D : Type 0} (disk_of : D → Disk) (s : StoreValue D) (runs : is_stopp
 
   pub compaction-works : ¬ (journal_value.IsIdle s.journal)
   compaction-works idle =
-      subst (λ (h : journal_under_way.UnderWay). CompactsWith s.journal.place h (snapshot (standing_in s))) idle compacts
+      subst (λ (h : journal_under_way.UnderWay). CompactsWith s.journal.place h (snapshot (standing_in s)))
+      idle compacts
 
   compaction-lent : (content next : Content)
       → HoldsWith (disk_in disk_of s) s.journal.place s.journal.under_way (snapshot (standing_in s)) content next
@@ -342,7 +344,8 @@ module _ {D : Type 0} (disk_of : D → Disk) (s : StoreValue D) (runs : is_stopp
   compaction-lent content next holding = holding
 
   -- as many slots as the snapshot has records are used, in the next generation
-  compaction-slots : (place : Place) (under_way : journal_under_way.UnderWay) (records : List Record) → CompactsWith place under_way records
+  compaction-slots : (place : Place) (under_way : journal_under_way.UnderWay) (records : List Record)
+      → CompactsWith place under_way records
       → (place_then place under_way).free ≡ length records
   compaction-slots place journal_work.Nothing records is = absurd is
   compaction-slots place (journal_work.Append work) records is = absurd is
@@ -390,7 +393,8 @@ module _ {D : Type 0} (disk_of : D → Disk) (s : StoreValue D) (runs : is_stopp
             form_next = stored.form_next;
           }
 
-      pub compaction-finished : Steps disk_of s (answers Going) (record { journal = j; held = s.held; under_way = Appending r })
+      pub compaction-finished : Steps disk_of s (answers Going)
+          (record { journal = j; held = s.held; under_way = Appending r })
       compaction-finished = record {
         stopped = (λ same. absurd cc, λ is. absurd (let no : true ≡ false = sym is ∙ runs in cc));
         idle = (λ same. absurd (let no : Going ≡ Idle = cc in cc), λ both. absurd (compaction-busy both.1));
@@ -416,7 +420,8 @@ module _ {D : Type 0} (disk_of : D → Disk) (s : StoreValue D) (runs : is_stopp
             (steps.device runs compaction-works));
         one = subst (λ (d : Disk). d.clock ≤ (disk_in disk_of s).clock + 1) same-disk steps.one;
         call =
-            λ was. subst (λ (d : Disk). d.clock ≡ (disk_in disk_of s).clock + 1) same-disk (steps.call compaction-works);
+            λ was.
+            subst (λ (d : Disk). d.clock ≡ (disk_in disk_of s).clock + 1) same-disk (steps.call compaction-works);
         left = λ was.
             (let less = steps.left compaction-works in let four = starts.left in
             let calls : calls_left s ≡ left_of s.journal.under_way + 4 = ap (calls_with s) under_way_is in
@@ -443,12 +448,14 @@ compacting-is Nothing is = absurd is
 compacting-is (Compacting r) is = (r, refl)
 compacting-is (Appending r) is = absurd is
 
-module _ {D : Type 0} (disk_of : D → Disk) (s : StoreValue D) (fits : FitsUnderWay s.journal (standing_in s) s.under_way) where
+module _ {D : Type 0} (disk_of : D → Disk) (s : StoreValue D)
+    (fits : FitsUnderWay s.journal (standing_in s) s.under_way) where
   -- what the invariant says of a record that is being appended, and of one that waits
   pub fits-append : (r : Record) → s.under_way ≡ Appending r → FitsUnderWay s.journal (standing_in s) (Appending r)
   fits-append r is = subst (λ (h : UnderWay). FitsUnderWay s.journal (standing_in s) h) is fits
 
-  pub fits-compaction : (r : Record) → s.under_way ≡ Compacting r → FitsUnderWay s.journal (standing_in s) (Compacting r)
+  pub fits-compaction : (r : Record) → s.under_way ≡ Compacting r
+      → FitsUnderWay s.journal (standing_in s) (Compacting r)
   fits-compaction r is = subst (λ (h : UnderWay). FitsUnderWay s.journal (standing_in s) h) is fits
 
   module _ (is : IsAppending s.under_way) where
@@ -498,9 +505,11 @@ module _ {D : Type 0} (disk_of : D → Disk) (s : StoreValue D) (fits : FitsUnde
     compaction-failed at j steps =
         let r = the-compaction.0 in
         let under_way_is = the-compaction.1 in
-        turn-failed disk_of s its-compaction.0 (compaction-busy disk_of s its-compaction.0 r under_way_is its-compaction.2)
+        turn-failed disk_of s its-compaction.0
+        (compaction-busy disk_of s its-compaction.0 r under_way_is its-compaction.2)
         (compaction-works disk_of s its-compaction.0 r under_way_is its-compaction.2)
-        (snapshot (standing_in s)) (compaction-lent disk_of s its-compaction.0 r under_way_is its-compaction.2) at j steps
+        (snapshot (standing_in s))
+        (compaction-lent disk_of s its-compaction.0 r under_way_is its-compaction.2) at j steps
 
     pub compaction-on : (step : JournalStep) (j : JournalValue D) → step ≢ Finished
         → journal.Steps disk_of s.journal (snapshot (standing_in s)) (answers step) j

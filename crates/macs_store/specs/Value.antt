@@ -121,7 +121,8 @@ LeadsTo (Appending r) before after = after ≡ content_with_record before r
 pub record IsStored {D : Type 0} (disk_of : D → disk.Disk) (s : StoreValue D) : Type 0 where
   pub content : Content
   pub next : Content
-  pub holding : HoldsWith (disk_in disk_of s) s.journal.place s.journal.under_way (snapshot (standing_in s)) content next
+  pub holding : HoldsWith (disk_in disk_of s) s.journal.place s.journal.under_way (snapshot (standing_in s))
+      content next
   pub stands : meaning_of this_edition content ≡ Some (standing_in s)
   pub becomes : meaning_of this_edition next ≡ standing_next (standing_in s) s.under_way
   pub leads : LeadsTo s.under_way content next

@@ -227,7 +227,8 @@ fn start_compaction<D: SectorDisk>(
     standing: &Standing,
 ) -> Result<(), JournalFault>
     requires idle { journal_value.IsIdle journal.old }
-    ensures { journal_steps.Starts D.disk journal.old (Compaction (snapshot (standing_of standing.now)))
+    ensures { journal_steps.Starts D.disk journal.old
+        (Compaction (snapshot (standing_of standing.now)))
         result journal.new }
 {
     standing.facts();

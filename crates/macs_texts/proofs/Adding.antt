@@ -1,5 +1,6 @@
 -- What is added to a report in a loop.
-use Rattle.std.proofs.Common.{◌≡◌, ℕ, ◌+◌, ◌<◌, ◌≤◌, List, [], ◌∷◌, ◌++◌, length, take, get_or, append_assoc, append-nil, refl, ap, sym, ◌∙◌, arith}
+use Rattle.std.proofs.Common.{◌≡◌, ℕ, ◌+◌, ◌<◌, ◌≤◌, List, [], ◌∷◌, ◌++◌, length, take, get_or, append_assoc}
+use Rattle.std.proofs.Common.{append-nil, refl, ap, sym, ◌∙◌, arith}
 use Rattle.std.specs.Prelude.{flat_map}
 use Rattle.std.proofs.lemmas.Grind.{flat_map-append}
 use Rattle.std.proofs.lemmas.List.{take_all, take_more}
@@ -22,8 +23,16 @@ next-item f xs count i d x front before after counted below is so_far added =
 
 -- the same for grind
 pub one_more : {X : Type 0} (f : X → List ℕ) (xs : List X) (i : ℕ) (d : X) → i < length xs
-    → (f (get_or xs i d) ≡ f (get_or xs i d)) × (flat_map f (take (i + 1) xs) ≡ flat_map f (take i xs) ++ f (get_or xs i d))
-one_more f xs i d within = (refl, rw (take_more xs i d within, flat_map-append f (take i xs) (get_or xs i d ∷ []), append-nil (f (get_or xs i d))) refl)
+    → (f (get_or xs i d) ≡ f (get_or xs i d))
+    × (flat_map f (take (i + 1) xs) ≡ flat_map f (take i xs) ++ f (get_or xs i d))
+one_more f xs i d within = (
+  refl,
+  rw (
+    take_more xs i d within,
+    flat_map-append f (take i xs) (get_or xs i d ∷ []),
+    append-nil (f (get_or xs i d)),
+  ) refl,
+)
 
 -- what a loop added after other lines
 pub looped : {X : Type 0} (f : X → List ℕ) (xs : List X) (count i : ℕ) (front before after lines : List ℕ)

@@ -27,7 +27,8 @@ tx-some s k an sa next same some number =
 pub rx-none : (s : State) (k : Config) (sci : List ℕ) (an : ℕ) → k ≡ s.config → None ≡ k.rx sci an
     → rx_text s sci an ≡ []
 rx-none s k sci an same none =
-    ap (λ (o : Option RxSa). rx_text_of sci an o (s.numbers sci an)) (sym (none ∙ ap (λ (c : Config). c.rx sci an) same))
+    ap (λ (o : Option RxSa). rx_text_of sci an o (s.numbers sci an))
+    (sym (none ∙ ap (λ (c : Config). c.rx sci an) same))
 
 -- what an endpoint reports of numbers
 abbrev told_of : Numbers → RxNumbers

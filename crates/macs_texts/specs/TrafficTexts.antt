@@ -13,7 +13,8 @@ use Rattle.macs_texts.specs.Showing.{association_numbers}
 -- the line for frames of a kind under an association and the octets of User Data in them, if there were any
 abbrev pub carried_line : List ℕ → List ℕ → Carried → List ℕ
 carried_line whose kind c = if c.frames == 0 then [] else
-    line (whose ++ (codes " " ++ (kind ++ (codes " frames " ++ (decimal c.frames ++ (codes " octets " ++ decimal c.octets))))))
+    line (whose
+    ++ (codes " " ++ (kind ++ (codes " frames " ++ (decimal c.frames ++ (codes " octets " ++ decimal c.octets))))))
 
 -- the lines for what was sent under an association number: with integrity only, and encrypted
 abbrev pub tx_text_of : ℕ → Traffic → List ℕ
@@ -28,7 +29,8 @@ tx_text c an = tx_text_of an (traffic_under c.traffic an)
 abbrev pub rx_text_of : List ℕ → ℕ → Option Traffic → List ℕ
 rx_text_of sci an None = []
 rx_text_of sci an (Some t) =
-    carried_line (rx_name sci an) (codes "validated") t.plain ++ carried_line (rx_name sci an) (codes "decrypted") t.encrypted
+    carried_line (rx_name sci an) (codes "validated") t.plain
+    ++ carried_line (rx_name sci an) (codes "decrypted") t.encrypted
 
 -- the same for a channel's association number
 abbrev pub rx_text : (List ℕ → Option ChannelCounters) → List ℕ → ℕ → List ℕ

@@ -85,7 +85,8 @@ pub(crate) fn keys_left(spent: usize) -> u64
 
 /// How many plain frames were protected, and how many met each fault.
 fn tx_lines<D: SectorDisk>(report: &mut Report, endpoint: &Endpoint<D>) -> Added
-    ensures { OnOk result (Adds report.old report.new (tx_text (txsc.counters_of endpoint.now.tx))) }
+    ensures { OnOk result
+        (Adds report.old report.new (tx_text (txsc.counters_of endpoint.now.tx))) }
 {
     let counters = endpoint.counters();
     report.count("tx", "protected", counters.protected())?;
@@ -97,7 +98,8 @@ fn tx_lines<D: SectorDisk>(report: &mut Report, endpoint: &Endpoint<D>) -> Added
 
 /// How often each verdict was given.
 fn rx_lines<D: SectorDisk>(report: &mut Report, endpoint: &Endpoint<D>) -> Added
-    ensures { OnOk result (Adds report.old report.new (rx_text (rxsc.counters_of endpoint.now.rx))) }
+    ensures { OnOk result
+        (Adds report.old report.new (rx_text (rxsc.counters_of endpoint.now.rx))) }
 {
     let counters = endpoint.counters();
     for &verdict in &RX_VERDICTS {

@@ -3,7 +3,8 @@
 ghost use Rattle.std.specs.Prelude.{◌≡◌, [], List};
 ghost use Rattle.macs_commands.specs.Talks.{Note, Talk, with_notes, with_talk};
 ghost use Rattle.macs_control.specs.LastGood.{NotesGoodIf, good_after, good_frames};
-ghost use Rattle.macs_control.specs.Listening.{LooksIf, MeasuresIf, is_time, measured_of, reports_of};
+ghost use Rattle.macs_control.specs.Listening.{LooksIf, MeasuresIf, is_time, measured_of};
+ghost use Rattle.macs_control.specs.Listening.{reports_of};
 ghost use Rattle.macs_control.specs.Listening.{said_of_ending, said_of_taking, turns_left};
 ghost use Rattle.macs_control.specs.Listening.{unanswered_after};
 ghost use Rattle.macs_rxsc.specs.Value as rxsc;

@@ -88,7 +88,8 @@ pub fn look<D: SectorDisk, S: Overruns + KeyNotes, C: Clients>(
     asking: &mut Client,
 ) -> Order
     ensures { (talk : List Talk)
-        × Looks is_full (reports_of program.now (S.known system.now) (S.answers system.now) endpoint.now
+        × Looks is_full
+        (reports_of program.now (S.known system.now) (S.answers system.now) endpoint.now
         controlled.now common.now)
         asking.old talk result asking.new
         × (C.talk clients.new ≡ with_talk (C.talk clients.old) talk) }

@@ -531,8 +531,8 @@ const UNSYNCED_FORMAT: &[&str] = &["format", UNSYNCED_DISK, "0200000000010001", 
 
 const UNSYNCED_APPLY: &[&str] = &["apply", UNSYNCED_DISK, "story-unsynced/key.toml"];
 
-/// The list of keys is not synced, or its folder is not. Nothing is done then that it stands for: no
-/// command is applied, and no new disk file takes the name.
+/// The list of keys is not synced, or its folder is not. Nothing is done then that it stands for:
+/// no command is applied, and no new disk file takes the name.
 const UNSYNCED: &[Step] = &[
     Text("story-unsynced/key.toml", KEY),
     Run(UNSYNCED_FORMAT, FORMATTED),

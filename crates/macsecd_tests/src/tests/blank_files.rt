@@ -133,8 +133,9 @@ const FORMAT_NEW: &[&str] = &["format", NEW_FILE, "12153524c0895e81", "4", "4"];
 /// A file in another folder than its name.
 const FORMAT_LINKED: &[&str] = &["format", "story-folder/link", "12153524c0895e81", "4", "4"];
 
-/// The folder that holds the file is synced, also through a symbolic link. Where it cannot be opened
-/// the new file does not take the name; where it is not synced, it has the name, and may lose it.
+/// The folder that holds the file is synced, also through a symbolic link. Where it cannot be
+/// opened the new file does not take the name; where it is not synced, it has the name, and may
+/// lose it.
 const FOLDERS: &[Step] = &[
     Failing(
         "story-folder",

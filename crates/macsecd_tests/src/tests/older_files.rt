@@ -74,8 +74,8 @@ const DISK: &str = "story-older/disk";
 const SHOW: &[&str] = &["show", DISK];
 
 /// `format` leaves the file as it is. An opening copies it, in 33 parts, and syncs the copy; then
-/// the journal starts over: a sync, a head and three records, a sync, a gate and a sync. From the gate on it is of format two, and a
-/// `show` writes nothing.
+/// the journal starts over: a sync, a head and three records, a sync, a gate and a sync. From the
+/// gate on it is of format two, and a `show` writes nothing.
 const BEGUN_ANEW: &[Step] = &[
     Zeros(DISK, 526_336),
     Patch(DISK, 0, HEAD),

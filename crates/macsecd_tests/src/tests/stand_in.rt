@@ -189,8 +189,8 @@ impl<R: Files<File = File>> Files for StandIn<'_, R> {
     type Dir = R::Dir;
 
     fn open_file(&self, how: &OpenOptions, path: &str) -> io::Result<BrokenFile> {
-        // A path that was resolved has the folders in front of it too. What fails of a file fails of
-        // the new one that is to have its name.
+        // A path that was resolved has the folders in front of it too. What fails of a file fails
+        // of the new one that is to have its name.
         let name = path.strip_suffix(".new").unwrap_or(path);
         let broken = if name.ends_with(self.path) {
             self.broken

@@ -88,8 +88,8 @@ const FURTHER_FAULTS: &[(&str, &str)] = &[
     ),
 ];
 
-/// The same of keys that a command does not have, of which the first in the order of their octets is
-/// named.
+/// The same of keys that a command does not have, of which the first in the order of their octets
+/// is named.
 const OTHER_KEYS: &[(&str, &str)] = &[
     (
         "[[command]]\ndo = 'tx-use'\nan = 0\nfrobnicate = 1\nconfidential = true\n",

@@ -11,7 +11,8 @@ use Rattle.macs_disk.proofs.claimed_file.copy_some.Goals as goal
 pub returns-in_ok-write_all-in-Ok-clause-front : goal.returns-in_ok-write_all-in-Ok-clause-front
 returns-in_ok-write_all-in-Ok-clause-front g c behaves front =
     let file = g.F.DiskFile.file in
-    front-more (file c.args.from.now) (file c.args.into.now) (file c.write_all.new.file) c.args.at c.in-Ok.count _ (search rules) front ((c.in-Ok.ensures.effect behaves).octets)
+    front-more (file c.args.from.now) (file c.args.into.now) (file c.write_all.new.file) c.args.at c.in-Ok.count _
+    (search rules) front ((c.in-Ok.ensures.effect behaves).octets)
     ((c.in_ok-write_all-in-Ok.ensures.effect front.behaves).ok front.is_sure)
 
 pub returns-in-Ok-eq0-clause-cause : goal.returns-in-Ok-eq0-clause-cause
@@ -21,7 +22,8 @@ returns-in-Ok-eq0-clause-cause g c = inl (
   moved-nothing _ (g.F.DiskFile.failures c.args.from.now) _ Reads UnexpectedEof (none-yet _)
       (none-failed _ _ Reads error_kind c.in-Ok-eq0.field-0
       (subst (λ (r : Result ℕ Error). NotesFailure (g.F.DiskFile.failures c.args.from.now)
-      (g.F.DiskFile.failures c.read_at.new.self) Reads error_kind r) c.in-Ok-eq0.is c.read_at.ensures.failure)) (inl refl),
+      (g.F.DiskFile.failures c.read_at.new.self) Reads error_kind r) c.in-Ok-eq0.is c.read_at.ensures.failure))
+      (inl refl),
 )
 
 pub returns-else-eq-clause-cause : goal.returns-else-eq-clause-cause

@@ -71,10 +71,10 @@ returns-then-not-used-clause-fault g c =
     unused-fault (now old).seen c.args.area c.args.count c.loop-slot.slot fault c.loop-slot-test.true
     (inv.sound (honest-before old start mid inv.reads to_mid before))
     (λ used. (
-      let yes : c.in_ok-used.used ≡ true = (c.in_ok-used.ensures.used before).1
-      (subst (λ (s : DiskState). IsUsed s.seen c.args.area c.args.count c.loop-slot.slot)
-      (sym (same-before old start mid inv.reads to_mid before)) used) in
-      true≢false (sym yes ∙ c.if-not-used.true)
+    let yes : c.in_ok-used.used ≡ true = (c.in_ok-used.ensures.used before).1
+    (subst (λ (s : DiskState). IsUsed s.seen c.args.area c.args.count c.loop-slot.slot)
+    (sym (same-before old start mid inv.reads to_mid before)) used) in
+    true≢false (sym yes ∙ c.if-not-used.true)
     ))
     (subst (λ (s : DiskState). GateFaultIs s.seen c.args.area c.loop-slot.slot fault)
     (same-before old mid new found to_new honest) (known honest)))

@@ -43,7 +43,8 @@ returns-in-Current-clause-fault g c =
     let works = c.area_fault.ensures.reads.work.works in
     let area = c.in-Current.area in
     IfOk-weaker c.area_fault.result _ _ (λ fault known honest.
-    let current = rw c.in-Current.is at (c.in_ok-choice.ensures.choice (honest-before old mid new reads works honest)) in
+    let current =
+    rw c.in-Current.is at (c.in_ok-choice.ensures.choice (honest-before old mid new reads works honest)) in
     current-fault (now old).seen area c.in-Current.head fault current
     (subst (λ (n : ℕ). AreaFaultIs (now old).seen area n fault) (c.from.ensures ∙ c.count.ensures.value)
     (subst (λ (s : DiskState). AreaFaultIs s.seen area c.from.result fault)

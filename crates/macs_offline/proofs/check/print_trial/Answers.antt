@@ -17,12 +17,14 @@ returns-in_err-outcomes-clause-broken g c =
 
 pub returns-in_err-refuse_spent-clause-ended : goal.returns-in_err-refuse_spent-clause-ended
 returns-in_err-refuse_spent-clause-ended g c =
-    let p = err_from_is_err_and c.from_residual-in_err-refuse_spent.result c.from_residual-in_err-refuse_spent.ensures.1 in
+    let p =
+    err_from_is_err_and c.from_residual-in_err-refuse_spent.result c.from_residual-in_err-refuse_spent.ensures.1 in
     rw (p.1, p.2) (inr (inr (inr c.in_err-refuse_spent.ensures)))
 
 pub returns-in_err-refuse_spent-clause-broken : goal.returns-in_err-refuse_spent-clause-broken
 returns-in_err-refuse_spent-clause-broken g c =
-    let p = err_from_is_err_and c.from_residual-in_err-refuse_spent.result c.from_residual-in_err-refuse_spent.ensures.1 in
+    let p =
+    err_from_is_err_and c.from_residual-in_err-refuse_spent.result c.from_residual-in_err-refuse_spent.ensures.1 in
     rw (p.1, p.2) (λ output. absurd (spent-no-output _ _ c.in_err-refuse_spent.ensures output))
 
 pub returns-clause-printed : goal.returns-clause-printed

@@ -12,5 +12,6 @@ returns-in_default c = nothing (string_bytes c.args.report.now.text) _
 pub returns : goal.returns
 returns c = IfOk-weaker c.key_line.result _ _
     (λ _ is. (rw (c.as_str.ensures.value, c.in_ok-whose.ensures) at is)
-    ∙ ap (λ (o : Option RxSa). string_bytes c.args.report.now.text ++ rx_key_text_of c.args.sci c.args.an o) c.in-Some.ensures)
+    ∙ ap (λ (o : Option RxSa). string_bytes c.args.report.now.text ++ rx_key_text_of c.args.sci c.args.an o)
+    c.in-Some.ensures)
     c.key_line.ensures

@@ -7,4 +7,5 @@ use Rattle.macs_texts.proofs.measuring.channel_samples.Given as goal
 
 abbrev pub invariant-loop-verdict : goal.invariant-loop-verdict
 invariant-loop-verdict g l = Adds l.initial.report l.report
-    (flat_map (channel_sample l.fn.own (channel_counters_of l.endpoint.rx) l.fn.sci) (take l.verdict-index l.verdict-items))
+    (flat_map (channel_sample l.fn.own (channel_counters_of l.endpoint.rx) l.fn.sci)
+    (take l.verdict-index l.verdict-items))

@@ -16,7 +16,8 @@ loop-an-preserved g c =
 pub returns : goal.returns
 returns g c =
     let s : State = state_of c.args.endpoint.now no_logs in
-    looped (left_sample c.args.own.now s) c.all-an-items.result 4 c.loop-an.an-index (string_bytes c.args.report.now.text)
+    looped (left_sample c.args.own.now s) c.all-an-items.result 4 c.loop-an.an-index
+    (string_bytes c.args.report.now.text)
     (string_bytes c.describe.new.report.text) (string_bytes c.loop-an.report.text) _
     (ap (λ (ns : List ℕ). length ns) c.all-an-items.ensures) c.loop-an-test.false
     c.in_ok-describe.ensures c.loop-an.invariant

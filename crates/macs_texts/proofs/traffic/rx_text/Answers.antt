@@ -21,7 +21,8 @@ returns g c = IfOk-weaker c.carried_line-2.result _ _
     (string_bytes c.carried_line-2.new.report.text) _ _
     (rw (c.as_str.ensures.value, c.in_ok-whose.ensures) at c.in_ok-carried_line.ensures)
     (rw (c.as_str-2.ensures.value, c.in_ok-whose.ensures) at is)
-    ∙ ap (λ (t : Option Traffic). string_bytes c.args.report.now.text ++ rx_text_of c.args.sci c.args.an t) c.in-Some.ensures
+    ∙ ap (λ (t : Option Traffic). string_bytes c.args.report.now.text ++ rx_text_of c.args.sci c.args.an t)
+    c.in-Some.ensures
     ∙ ap (λ r. string_bytes c.args.report.now.text ++ rx_text_of c.args.sci c.args.an
     (option_map (λ (k : ChannelCounters). traffic_under k.traffic c.args.an) (channel_counters_of r c.args.sci)))
     c.counters.ensures.rx)

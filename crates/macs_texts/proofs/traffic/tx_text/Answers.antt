@@ -15,5 +15,6 @@ returns g c = IfOk-weaker c.carried_line-2.result _ _
     (rw (c.as_str.ensures.value, c.in_ok-whose.ensures) at c.in_ok-carried_line.ensures)
     (rw (c.as_str-2.ensures.value, c.in_ok-whose.ensures) at is)
     ∙ ap (λ (t : Traffic). string_bytes c.args.report.now.text ++ tx_text_of c.args.an t)
-    (c.transmitted-traffic.ensures ∙ ap (λ (t : Tx). traffic_under (counters_of t).traffic c.args.an) c.counters.ensures.tx))
+    (c.transmitted-traffic.ensures
+    ∙ ap (λ (t : Tx). traffic_under (counters_of t).traffic c.args.an) c.counters.ensures.tx))
     c.carried_line-2.ensures

@@ -17,6 +17,7 @@ returns g c = (
       (rxsc.counters_of c.args.endpoint.now.rx) (rxsc.channel_counters_of c.args.endpoint.now.rx))
       c.reported-controlled.result c.reported-common.result
       (reported c.args.controlled.now c.dropped-first.result.controlled)
-      (reported c.args.common.now c.dropped-first.result.common) c.reported-controlled.ensures c.reported-common.ensures)
+      (reported c.args.common.now c.dropped-first.result.common) c.reported-controlled.ensures
+      c.reported-common.ensures)
       c.counter_lines.ensures,
 )

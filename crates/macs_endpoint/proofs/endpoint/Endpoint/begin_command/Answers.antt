@@ -1,9 +1,17 @@
-use Rattle.std.proofs.Common.{◌≡◌, ◌∙◌, Result, Ok, Err, sym, ap, subst}
+use Rattle.std.proofs.Common.{◌≡◌, ◌∙◌, Option, None, Result, Ok, Err, refl, sym, ap, subst}
+use Rattle.macs_config.specs.declared.command.Command.{Command}
 use Rattle.macs_store.specs.declared.fault.CommitFault.{CommitFault}
+use Rattle.macs_endpoint.specs.Calls.{IsCall}
 use Rattle.macs_endpoint.specs.KeptCommands.{StartsFirst}
 use Rattle.macs_endpoint.specs.Needed.{raise_in}
+use Rattle.macs_endpoint.specs.Parts.{endpoint_of}
 use Rattle.macs_endpoint.specs.Queue.{first_waiting}
+use Rattle.macs_endpoint.specs.State.{Advanced, Advances}
 use Rattle.macs_endpoint.specs.Value.{EndpointValue, IsSoundEndpoint}
+use Rattle.macs_endpoint.specs.declared.progress.Step.TheVariants.{Done}
+use Rattle.macs_endpoint.specs.declared.turn.Turn.TheVariants.{Reservation}
+use Rattle.macs_endpoint.proofs.Parts.{commanded}
+use Rattle.macs_endpoint.proofs.Working.{at-rest}
 use Rattle.macs_endpoint.proofs.Taken.{takes-first}
 use Rattle.macs_endpoint.proofs.TakenUp.{front-is, keep-begins, refused-ends}
 use Rattle.macs_endpoint.proofs.endpoint.Endpoint.begin_command.Given.{Over}
@@ -28,11 +36,20 @@ returns-in-Err g c =
     let others = c.pop.new.self.waiting in
     let popped = front-is e.waiting c.pop.result c.args.first others
     (ap (λ (x : EndpointValue g.row.D.Denot). x.waiting) (sym same) ∙ c.pop.ensures.waiting) waits in
-    refused-ends d e (subst (λ (x : EndpointValue g.row.D.Denot). IsSoundEndpoint x) same c.self.invariant)
-    c.requires.running c.requires.idle
+    let kept = subst (λ (x : EndpointValue g.row.D.Denot). IsSoundEndpoint x) same c.self.invariant in
+    let rest = at-rest e kept c.requires.idle in
+    let mid = endpoint_of c.self.inside.store c.self.inside.channels c.self.inside.queue c.self.inside.turn in
+    let P : EndpointValue g.row.D.Denot → Type 0 =
+    IsCall d e Advances (Advanced (Ok (Done c.args.first.ticket (Err c.from.result)))) in
+    commanded c.self.inside.store c.self.inside.channels (record c.self.inside.queue { waiting = others })
+    c.pop.new.self Reservation P None c.pop.ensures.after
+    (ap (λ (x : EndpointValue g.row.D.Denot). x.reserving) same ∙ rest.reserving)
+    (subst (λ (o : Option Command). P (record mid { under_way = o; waiting = others; turn = Reservation }))
+    (ap (λ (x : EndpointValue g.row.D.Denot). x.under_way) same ∙ rest.under_way c.requires.running)
+    (refused-ends d e kept c.requires.running c.requires.idle
     c.args.first c.command_in_range.ensures waits others popped c.in-Err.fault c.start_first.new.self.store
     refused.starts c.requires.next
-    c.from.result c.from.ensures _ same c.pop.new.self.given c.pop.ensures.given
+    c.from.result c.from.ensures mid same mid.tickets refl))
 
 pub returns : goal.returns
 returns g c =

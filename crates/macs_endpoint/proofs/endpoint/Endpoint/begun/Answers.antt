@@ -1,4 +1,4 @@
-use Rattle.std.proofs.Common.{◌≡◌, ◌≤◌, ℕ, List, length, inl, Option, Some, None, Result, Ok, IfOk, refl, sym, ◌∙◌, ap}
+use Rattle.std.proofs.Common.{◌≡◌, ℕ, List, [], inl, Option, Some, None, Result, Ok, IfOk, refl, sym, ◌∙◌, ap}
 use Rattle.std.proofs.Common.{subst, arith, rules}
 use Rattle.std.specs.Option.{option_map}
 use Rattle.macs_config.specs.Config.{Config}
@@ -14,10 +14,10 @@ use Rattle.macs_rxsc.proofs.Needs.{unnumbered}
 use Rattle.macs_journal.specs.declared.recovery.RecoverRefused.{RecoverRefused}
 use Rattle.macs_store.specs.Value.{IsIdle, StoreValue, standing_in}
 use Rattle.macs_store.specs.Standing.{Standing}
-use Rattle.macs_endpoint.specs.Opening.{BeginsOpened}
-use Rattle.macs_endpoint.specs.Queue.{last_ticket, queue_length}
+use Rattle.macs_endpoint.specs.Opening.{Begins, BeginsOpened}
+use Rattle.macs_endpoint.specs.PrivateTypes.{raise_of}
+use Rattle.macs_endpoint.specs.Queue.{QueueValue}
 use Rattle.macs_endpoint.specs.Value.{EndpointValue, IsAtRest, IsRxWithin, IsSoundEndpoint, IsTxWithin}
-use Rattle.macs_endpoint.specs.declared.queue.Waiting.{Waiting}
 use Rattle.macs_endpoint.specs.declared.turn.Turn.TheVariants.{Reservation}
 use Rattle.macs_endpoint.specs.State.{rx_side_with, tx_side_with}
 use Rattle.macs_endpoint.proofs.endpoint.Endpoint.begun.Given.{Over}
@@ -81,17 +81,23 @@ module _ (g : Over) (c : After-new-3 g) where
   numbers : (rxsc.rx_side_of rx).numbers ≡ (λ sci an. option_map first_numbers (s.ceilings.rx sci an))
   numbers = ap (λ side. side.numbers) c.take_up.ensures.rx
 
-  abbrev opened : EndpointValue g.row.D.Denot
-  opened = record {
+  abbrev having : QueueValue → EndpointValue g.row.D.Denot
+  having queue = record {
     store = store;
     tx = tx;
     rx = rx;
-    under_way = None;
-    reserving = None;
-    waiting = c.new-3.result.waiting;
-    tickets = c.new-3.result.given;
+    under_way = queue.under_way;
+    reserving = option_map raise_of queue.reserving;
+    waiting = queue.waiting;
+    tickets = queue.given;
     turn = Reservation;
   }
+
+  abbrev empty : QueueValue
+  empty = record { waiting = []; given = 0; under_way = None; reserving = None }
+
+  abbrev opened : EndpointValue g.row.D.Denot
+  opened = having empty
 
   rests : IsAtRest opened
   rests = record {
@@ -123,28 +129,31 @@ module _ (g : Over) (c : After-new-3 g) where
               ∙ subst (λ (k : Config). k.rx sci an ≡ None) c.config.ensures.config
               (c.facts-2.ensures.rx_numbers sci an over));
         };
-        few = subst (λ (w : List Waiting). length w ≤ queue_length) (sym c.new-3.ensures.waiting) (omega arith);
-        tickets = subst (λ (n : ℕ). n ≤ last_ticket) (sym c.new-3.ensures.given) (omega arith);
+        few = omega arith;
+        tickets = omega arith;
         work = inl rests;
       }
 
 pub invariant_of-result : goal.invariant_of-result
-invariant_of-result g c = kept g (goal.at.invariant_of-result g c).After-new-3
+invariant_of-result g c =
+    let at = (goal.at.invariant_of-result g c).After-new-3 in
+    subst (λ (q : QueueValue). IsSoundEndpoint (having g at q)) (sym c.new-3.ensures) (kept g at)
 
 pub returns : goal.returns
 returns g c =
     let at = (goal.at.returns g c).After-new-3 in
-    subst (λ (o : Result (StoreValue g.row.D.Denot) (RecoverRefused g.row.D.Denot)). BeginsOpened o (Ok (opened g at)))
+    subst (λ (o : Result (StoreValue g.row.D.Denot) (RecoverRefused g.row.D.Denot)).
+    BeginsOpened o (Ok (having g at c.new-3.result)))
     (sym c.in-Ok.is)
-    (record {
+    (subst (λ (q : QueueValue). Begins (store g at) (having g at q)) (sym c.new-3.ensures) (record {
       from = refl;
       sound = kept g at;
       idle = (rests g at, refl);
-      queue = (c.new-3.ensures.waiting, c.new-3.ensures.given);
+      queue = (refl, refl);
       turn = refl;
       next = next g at;
       numbers = numbers g at;
       tx_counters = search rules;
       rx_counters = search rules;
       channel_counters = search rules;
-    })
+    }))

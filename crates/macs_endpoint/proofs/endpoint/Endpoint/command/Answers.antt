@@ -30,8 +30,8 @@ returns-then-not-is_empty g c =
 pub returns-in-Err : goal.returns-in-Err
 returns-in-Err g c =
     let d = g.D.SectorDisk.disk in
-    let old : EndpointValue g.row.D.Denot = endpoint_of c.self.inside.store c.self.inside.channels c.self.inside.under_way
-    c.self.inside.reserving c.self.inside.queue c.self.inside.turn in
+    let old : EndpointValue g.row.D.Denot =
+    endpoint_of c.self.inside.store c.self.inside.channels c.self.inside.queue c.self.inside.turn in
     let refusal = c.in-Err.refusal in
     let running : is_stopped old ≡ false =
     ap (λ (e : EndpointValue g.row.D.Denot). is_stopped e) c.self.view_is ∙ sym c.is_stopped.ensures

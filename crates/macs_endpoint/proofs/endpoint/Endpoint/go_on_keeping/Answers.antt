@@ -1,31 +1,28 @@
-use Rattle.std.proofs.Common.{◌≡◌, ◌≤◌, ◌∙◌, ℕ, length, ◌∷◌, arith, inr, List, Option, Some, None, Result, Ok, Err, sym}
+use Rattle.std.proofs.Common.{◌≡◌, ◌≤◌, ◌∙◌, length, arith, inr, List, None, Result, Ok, Err, sym}
 use Rattle.std.proofs.Common.{ap, subst}
-use Rattle.macs_config.specs.declared.command.Command.{Command}
 use Rattle.macs_journal.specs.declared.fault.JournalFault.{JournalFault}
 use Rattle.macs_journal.specs.declared.fault.JournalFault.TheVariants as fault
 use Rattle.macs_journal.specs.declared.work.JournalStep.{JournalStep}
 use Rattle.macs_journal.specs.declared.work.JournalStep.TheVariants.{Finished, Going}
-use Rattle.macs_store.specs.Standing.{accept}
 use Rattle.macs_store.specs.Stepping.{Steps}
 use Rattle.macs_store.specs.Value.{standing_in}
 use Rattle.macs_endpoint.specs.Calls.{IsCall}
-use Rattle.macs_endpoint.specs.Following.{Follows}
 use Rattle.macs_endpoint.specs.Parts.{endpoint_of}
 use Rattle.macs_endpoint.specs.State.{Advanced, Advances}
 use Rattle.macs_endpoint.specs.Value.{EndpointValue, IsKeeping, IsSoundEndpoint}
 use Rattle.macs_endpoint.specs.declared.progress.Step.TheVariants.{Done}
 use Rattle.macs_endpoint.specs.declared.queue.Waiting.{Waiting}
 use Rattle.macs_endpoint.specs.declared.turn.Turn.TheVariants as turn
+use Rattle.macs_endpoint.proofs.Parts.{commanded}
 use Rattle.macs_endpoint.proofs.Stepped.{cut_short-call, cut_short-kept, followed-call, followed-kept, follows}
 use Rattle.macs_endpoint.proofs.Stepped.{gone_on-call, gone_on-kept, step_fault, still_going}
 use Rattle.macs_endpoint.proofs.endpoint.Endpoint.go_on_keeping.Given.{Over}
-use Rattle.macs_endpoint.proofs.endpoint.Endpoint.go_on_keeping.Goals.{After-follow, After-step, After-unwrap-checked}
+use Rattle.macs_endpoint.proofs.endpoint.Endpoint.go_on_keeping.Goals.{After-step}
 use Rattle.macs_endpoint.proofs.endpoint.Endpoint.go_on_keeping.Goals as goal
 
 module _ (g : Over) (c : After-step g) where
   abbrev old : EndpointValue g.row.D.Denot
-  old = endpoint_of c.self.inside.store c.self.inside.channels c.self.inside.under_way c.self.inside.reserving
-      c.self.inside.queue c.self.inside.turn
+  old = endpoint_of c.self.inside.store c.self.inside.channels c.self.inside.queue c.self.inside.turn
 
   work : IsKeeping old
   work = rw (← c.self.view_is) at c.requires
@@ -55,37 +52,12 @@ pop-done-requires g c =
     let at = (goal.at.pop-done-requires g c).After-step in
     subst (λ (w : List Waiting). 1 ≤ length w) (sym (work g at).waiting) (omega arith)
 
--- what was judged is of the command that waited first
-checked_is : (g : Over) (c : After-unwrap-checked g)
-    → IsKeeping (endpoint_of c.self.inside.store c.self.inside.channels c.self.inside.under_way c.self.inside.reserving
-    c.self.inside.queue c.self.inside.turn)
-    → c.unwrap-checked.result ≡ c.pop-done.result.command
-checked_is g c held =
-    let front : held.first ∷ held.rest ≡ c.pop-done.result ∷ c.pop-done.new.self.waiting = sym held.waiting
-    ∙ c.pop-done.ensures.waiting in
-    let same : held.first ≡ c.pop-done.result = cc in
-    let found : Some held.first.command ≡ Some c.unwrap-checked.result = sym held.under_way ∙ sym c.take.ensures.value
-    ∙ c.unwrap-checked.ensures in
-    let its : held.first.command ≡ c.unwrap-checked.result = cc in
-    sym its ∙ ap (λ (w : Waiting). w.command) same
-
--- the channels follow it
-follows_first : (g : Over) (c : After-follow g) → c.unwrap-checked.result ≡ c.pop-done.result.command
-    → Follows c.pop-done.result.command (standing_in c.step.new.self) c.self.inside.channels.tx
-    c.self.inside.channels.rx c.follow.new.self.tx c.follow.new.self.rx
-follows_first g c is =
-    subst (λ (command : Command).
-    Follows command (standing_in c.step.new.self) c.self.inside.channels.tx c.self.inside.channels.rx
-    c.follow.new.self.tx c.follow.new.self.rx) is c.follow.ensures
-
 pub follow-requires : goal.follow-requires
 follow-requires g c =
     let at = (goal.at.follow-requires g c).After-step in (
       standing_in c.self.inside.store,
       c.self.invariant.channels,
-      ap (λ (command : Command). accept (standing_in c.self.inside.store) command)
-          (checked_is g (goal.at.follow-requires g c).After-unwrap-checked (work g at))
-          ∙ follows g.D.SectorDisk.disk (old g at) c.self.invariant (work g at) c.pop-done.result
+      follows g.D.SectorDisk.disk (old g at) c.self.invariant (work g at) c.pop-done.result
           c.pop-done.new.self.waiting c.pop-done.ensures.waiting c.step.new.self
           (steps g at (Ok Finished) (c.in-Ok.is ∙ ap Ok c.in-Finished.is)),
     )
@@ -93,36 +65,15 @@ follow-requires g c =
 pub invariant_of-self : goal.invariant_of-self
 invariant_of-self g c =
     let at = (goal.at.invariant_of-self g c).After-step in
-    let followed = follows_first g (goal.at.invariant_of-self g c).After-follow
-    (checked_is g (goal.at.invariant_of-self g c).After-unwrap-checked (work g at)) in
-    subst (λ (o : Option Command). IsSoundEndpoint (record (old g at) {
-      store = c.step.new.self;
-      tx =
-          c.follow.new.self.tx;
-      rx = c.follow.new.self.rx;
-      under_way = o;
-      waiting = c.pop-done.new.self.waiting;
-      tickets =
-          c.pop-done.new.self.given;
-      turn = turn.Reservation;
-    })) (sym c.take.ensures.after)
-    (subst (λ (n : ℕ). IsSoundEndpoint
-    (record (old g at) {
-      store = c.step.new.self;
-      tx = c.follow.new.self.tx;
-      rx = c.follow.new.self.rx;
-      under_way =
-          None;
-      waiting = c.pop-done.new.self.waiting;
-      tickets = n;
-      turn = turn.Reservation;
-    }))
-    (sym c.pop-done.ensures.given)
+    let followed = c.follow.ensures in
+    commanded c.step.new.self c.follow.new.self (record c.self.inside.queue { waiting = c.pop-done.new.self.waiting })
+    c.pop-done.new.self
+    turn.Reservation IsSoundEndpoint None c.pop-done.ensures.after (work g at).reserving
     (followed-kept g.D.SectorDisk.disk (old g at) c.self.invariant (work g at) c.pop-done.result
     c.pop-done.new.self.waiting c.pop-done.ensures.waiting
     c.step.new.self (steps g at (Ok Finished) (c.in-Ok.is ∙ ap Ok c.in-Finished.is)) c.follow.new.self.tx
     c.follow.new.self.rx
-    followed.channels followed.next followed.numbers))
+    followed.channels followed.next followed.numbers)
 
 pub invariant_of-self-in_default : goal.invariant_of-self-in_default
 invariant_of-self-in_default g c =
@@ -139,39 +90,19 @@ invariant_of-self-in-Err g c =
 pub returns-in-Finished : goal.returns-in-Finished
 returns-in-Finished g c =
     let at = (goal.at.returns-in-Finished g c).After-step in
-    let followed = follows_first g (goal.at.returns-in-Finished g c).After-follow
-    (checked_is g (goal.at.returns-in-Finished g c).After-unwrap-checked (work g at)) in
+    let followed = c.follow.ensures in
     rw (← c.self.view_is)
-    (subst (λ (o : Option Command).
-    IsCall g.D.SectorDisk.disk (old g at) Advances (Advanced (Ok (Done c.pop-done.result.ticket (Ok tt))))
-    (record (old g at) {
-      store = c.step.new.self;
-      tx = c.follow.new.self.tx;
-      rx = c.follow.new.self.rx;
-      under_way = o;
-      waiting = c.pop-done.new.self.waiting;
-      tickets = c.pop-done.new.self.given;
-      turn = turn.Reservation;
-    }))
-    (sym c.take.ensures.after)
-    (subst (λ (n : ℕ).
-    IsCall g.D.SectorDisk.disk (old g at) Advances (Advanced (Ok (Done c.pop-done.result.ticket (Ok tt))))
-    (record (old g at) {
-      store = c.step.new.self;
-      tx = c.follow.new.self.tx;
-      rx = c.follow.new.self.rx;
-      under_way = None;
-      waiting = c.pop-done.new.self.waiting;
-      tickets = n;
-      turn = turn.Reservation;
-    }))
-    (sym c.pop-done.ensures.given)
+    (commanded c.step.new.self c.follow.new.self (record c.self.inside.queue { waiting = c.pop-done.new.self.waiting })
+    c.pop-done.new.self
+    turn.Reservation
+    (IsCall g.D.SectorDisk.disk (old g at) Advances (Advanced (Ok (Done c.pop-done.result.ticket (Ok tt)))))
+    None c.pop-done.ensures.after (work g at).reserving
     (followed-call g.D.SectorDisk.disk (old g at) c.self.invariant (work g at) c.pop-done.result
     c.pop-done.new.self.waiting c.pop-done.ensures.waiting
     c.step.new.self (steps g at (Ok Finished) (c.in-Ok.is ∙ ap Ok c.in-Finished.is)) c.follow.new.self.tx
     c.follow.new.self.rx
     followed.channels followed.next followed.numbers followed.tx_counters followed.rx_counters
-    followed.channel_counters)))
+    followed.channel_counters))
 
 pub returns-in_default : goal.returns-in_default
 returns-in_default g c =

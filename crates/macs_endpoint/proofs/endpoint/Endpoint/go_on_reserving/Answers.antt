@@ -1,4 +1,4 @@
-use Rattle.std.proofs.Common.{◌≡◌, ◌∙◌, inl, Option, Result, Ok, Err, sym, ap, subst}
+use Rattle.std.proofs.Common.{◌≡◌, ◌∙◌, inl, Result, Ok, Err, sym, ap, subst}
 use Rattle.std.specs.Option.{option_map}
 use Rattle.macs_journal.specs.declared.fault.JournalFault.{JournalFault}
 use Rattle.macs_journal.specs.declared.fault.JournalFault.TheVariants as fault
@@ -8,10 +8,11 @@ use Rattle.macs_store.specs.Stepping.{Steps}
 use Rattle.macs_store.specs.Value.{standing_in}
 use Rattle.macs_endpoint.specs.Calls.{IsCall}
 use Rattle.macs_endpoint.specs.Parts.{endpoint_of}
+use Rattle.macs_endpoint.specs.Queue.{QueueValue}
 use Rattle.macs_endpoint.specs.State.{Advanced, Advances}
 use Rattle.macs_endpoint.specs.PrivateTypes.{raise_of}
 use Rattle.macs_endpoint.specs.Value.{EndpointValue, IsReserving, IsSoundEndpoint}
-use Rattle.macs_endpoint.specs.declared.refilling.Raise.{Raise as Told}
+use Rattle.macs_endpoint.specs.declared.fault.StepFault.TheVariants as step
 use Rattle.macs_endpoint.specs.declared.progress.Step.TheVariants.{Reserved}
 use Rattle.macs_endpoint.specs.declared.turn.Turn.TheVariants as turn
 use Rattle.macs_endpoint.proofs.Ended.{IsDone, given_up-kept, may-lift, raised-kept, raised_to, step-cut, step-done}
@@ -24,8 +25,7 @@ use Rattle.macs_endpoint.proofs.endpoint.Endpoint.go_on_reserving.Goals as goal
 
 module _ (g : Over) (c : After-step g) where
   abbrev old : EndpointValue g.row.D.Denot
-  old = endpoint_of c.self.inside.store c.self.inside.channels c.self.inside.under_way c.self.inside.reserving
-      c.self.inside.queue c.self.inside.turn
+  old = endpoint_of c.self.inside.store c.self.inside.channels c.self.inside.queue c.self.inside.turn
 
   work : IsReserving old
   work = rw (← c.self.view_is) at c.requires
@@ -61,7 +61,7 @@ pub raise-requires : goal.raise-requires
 raise-requires g c =
     let at = (goal.at.raise-requires g c).After-step in
     let same = some_is (work g at).raise (raise_of c.unwrap-raise.result)
-    (sym (work g at).reserving ∙ ap (option_map raise_of) (sym c.take.ensures.value ∙ c.unwrap-raise.ensures)) in
+    (sym (work g at).reserving ∙ ap (option_map raise_of) (sym c.end_raise.ensures.value ∙ c.unwrap-raise.ensures)) in
     may-lift (old g at) c.self.invariant (work g at) (raise_of c.unwrap-raise.result) same (standing_in c.step.new.self)
     (done g at (c.in-Ok.is ∙ ap Ok c.in-Finished.is)).stands
 
@@ -69,14 +69,8 @@ pub invariant_of-self : goal.invariant_of-self
 invariant_of-self g c =
     let at = (goal.at.invariant_of-self g c).After-step in
     let lifted = c.raise.ensures in
-    subst (λ (o : Option Told). IsSoundEndpoint (record (old g at) {
-      store = c.step.new.self;
-      tx = c.raise.new.self.tx;
-      rx = c.raise.new.self.rx;
-      reserving = option_map raise_of o;
-      turn = turn.Command;
-    }))
-    (sym c.take.ensures.after)
+    subst (λ (q : QueueValue). IsSoundEndpoint (endpoint_of c.step.new.self c.raise.new.self q turn.Command))
+    (sym c.end_raise.ensures.after)
     (raised-kept g.D.SectorDisk.disk (old g at) c.self.invariant (work g at) c.step.new.self
     (done g at (c.in-Ok.is ∙ ap Ok c.in-Finished.is))
     c.raise.new.self.tx c.raise.new.self.rx turn.Command lifted.channels lifted.tx_side lifted.rx_side)
@@ -90,26 +84,22 @@ invariant_of-self-in_default g c =
 pub invariant_of-self-in-Err : goal.invariant_of-self-in-Err
 invariant_of-self-in-Err g c =
     let at = (goal.at.invariant_of-self-in-Err g c).After-step in
-    given_up-kept g.D.SectorDisk.disk (old g at) c.self.invariant (work g at) c.step.new.self
+    subst (λ (q : QueueValue).
+    IsSoundEndpoint (endpoint_of c.step.new.self c.self.inside.channels q c.self.inside.turn))
+    (sym c.end_raise-in-Err.ensures.after)
+    (given_up-kept g.D.SectorDisk.disk (old g at) c.self.invariant (work g at) c.step.new.self
     (step-cut g.D.SectorDisk.disk c.self.inside.store
     (raised_to g.D.SectorDisk.disk (old g at) c.self.invariant (work g at)) (work g at).leads c.step.new.self
-    (failed g at c.in-Err.field-0 c.in-Err.is))
+    (failed g at c.in-Err.field-0 c.in-Err.is)))
 
 pub returns-in-Finished : goal.returns-in-Finished
 returns-in-Finished g c =
     let at = (goal.at.returns-in-Finished g c).After-step in
     let lifted = c.raise.ensures in
     rw (← c.self.view_is)
-    (subst (λ (o : Option Told). IsCall g.D.SectorDisk.disk (old g at) Advances (Advanced (Ok Reserved))
-    (record (old g at) {
-      store = c.step.new.self;
-      tx = c.raise.new.self.tx;
-      rx = c.raise.new.self.rx;
-      reserving =
-          option_map raise_of o;
-      turn = turn.Command;
-    }))
-    (sym c.take.ensures.after)
+    (subst (λ (q : QueueValue). IsCall g.D.SectorDisk.disk (old g at) Advances (Advanced (Ok Reserved))
+    (endpoint_of c.step.new.self c.raise.new.self q turn.Command))
+    (sym c.end_raise.ensures.after)
     (reserved-call g.D.SectorDisk.disk (old g at) c.self.invariant (work g at) c.step.new.self
     (steps g at (Ok Finished) (c.in-Ok.is ∙ ap Ok c.in-Finished.is))
     c.raise.new.self.tx c.raise.new.self.rx lifted.channels lifted.tx_side lifted.rx_side lifted.tx_counters
@@ -125,5 +115,9 @@ returns-in_default g c =
 pub returns-in-Err : goal.returns-in-Err
 returns-in-Err g c =
     let at = (goal.at.returns-in-Err g c).After-step in
-    rw (← c.self.view_is) (given_up-call g.D.SectorDisk.disk (old g at) c.self.invariant (work g at) c.step.new.self
-    (failed g at c.in-Err.field-0 c.in-Err.is))
+    rw (← c.self.view_is)
+    (subst (λ (q : QueueValue). IsCall g.D.SectorDisk.disk (old g at) Advances (Advanced (Err step.Disk))
+    (endpoint_of c.step.new.self c.self.inside.channels q c.self.inside.turn))
+    (sym c.end_raise-in-Err.ensures.after)
+    (given_up-call g.D.SectorDisk.disk (old g at) c.self.invariant (work g at) c.step.new.self
+    (failed g at c.in-Err.field-0 c.in-Err.is)))

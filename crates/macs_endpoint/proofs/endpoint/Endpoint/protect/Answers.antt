@@ -18,8 +18,7 @@ returns-then-is_stopped-clause-call g c =
 
 module _ (g : Over) (c : After-protect g) where
   abbrev old : EndpointValue g.row.D.Denot
-  old = endpoint_of c.self.inside.store c.self.inside.channels c.self.inside.under_way c.self.inside.reserving
-      c.self.inside.queue c.self.inside.turn
+  old = endpoint_of c.self.inside.store c.self.inside.channels c.self.inside.queue c.self.inside.turn
 
   sends : Sends (txsc.tx_side_of old.tx) (txsc.tx_side_of c.protect.new.self) (txsc.ceilings_of old.tx) c.args.plain.now
       c.protect.result

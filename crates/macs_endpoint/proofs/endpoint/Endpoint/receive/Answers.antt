@@ -16,8 +16,7 @@ returns-then-is_stopped-clause-call g c =
 
 module _ (g : Over) (c : After-receive g) where
   abbrev old : EndpointValue g.row.D.Denot
-  old = endpoint_of c.self.inside.store c.self.inside.channels c.self.inside.under_way c.self.inside.reserving
-      c.self.inside.queue c.self.inside.turn
+  old = endpoint_of c.self.inside.store c.self.inside.channels c.self.inside.queue c.self.inside.turn
 
 pub invariant_of-self : goal.invariant_of-self
 invariant_of-self g c =

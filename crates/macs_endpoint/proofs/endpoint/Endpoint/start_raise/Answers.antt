@@ -1,23 +1,25 @@
-use Rattle.std.proofs.Common.{◌≡◌, false, Some, Result, Ok, refl, sym, subst}
+use Rattle.std.proofs.Common.{◌≡◌, false, Some, None, Result, Ok, refl, sym, subst}
 use Rattle.macs_journal.specs.declared.fault.JournalFault.{JournalFault}
 use Rattle.macs_store.specs.Stepping.{HasUnderWay, Starts}
 use Rattle.macs_store.specs.Value.{IsIdle, standing_in}
 use Rattle.macs_endpoint.specs.Ceilings.{standing_with_raise}
 use Rattle.macs_endpoint.specs.Needed.{raise_in}
 use Rattle.macs_endpoint.specs.Parts.{endpoint_of}
+use Rattle.macs_endpoint.specs.Reserving.{StartsRaise}
 use Rattle.macs_endpoint.specs.State.{no_logs, rx_side, tx_side}
 use Rattle.macs_endpoint.specs.PrivateTypes.{raise_of}
-use Rattle.macs_endpoint.specs.Value.{EndpointValue, is_stopped, state_of}
+use Rattle.macs_endpoint.specs.Value.{EndpointValue, IsSoundEndpoint, is_stopped, state_of}
 use Rattle.macs_endpoint.proofs.Begun.{first-rises}
 use Rattle.macs_endpoint.proofs.Ended.{begun-kept, begun-reserving}
+use Rattle.macs_endpoint.proofs.Parts.{raising}
+use Rattle.macs_endpoint.proofs.Working.{at-rest}
 use Rattle.macs_endpoint.proofs.endpoint.Endpoint.start_raise.Given.{Over}
 use Rattle.macs_endpoint.proofs.endpoint.Endpoint.start_raise.Goals.{After-self, After-start_ceiling}
 use Rattle.macs_endpoint.proofs.endpoint.Endpoint.start_raise.Goals as goal
 
 module _ (g : Over) (c : After-self g) where
   abbrev old : EndpointValue g.row.D.Denot
-  old = endpoint_of c.self.inside.store c.self.inside.channels c.self.inside.under_way c.self.inside.reserving
-      c.self.inside.queue c.self.inside.turn
+  old = endpoint_of c.self.inside.store c.self.inside.channels c.self.inside.queue c.self.inside.turn
 
   running : is_stopped old ≡ false
   running = rw (← c.self.view_is) at c.requires.running
@@ -28,6 +30,10 @@ module _ (g : Over) (c : After-self g) where
   first : raise_in old ≡ Some (raise_of c.args.raise)
   first = subst (λ (e : EndpointValue g.row.D.Denot). raise_in e ≡ Some (raise_of c.args.raise)) (sym c.self.view_is)
       c.requires.first
+
+  -- no command is under way
+  free : old.under_way ≡ None
+  free = (at-rest old c.self.invariant idle).under_way running
 
 pub start_ceiling-requires-clause-rises : goal.start_ceiling-requires-clause-rises
 start_ceiling-requires-clause-rises g c =
@@ -53,15 +59,21 @@ taken g c is = (starts g c (Ok tt) is).under_way
 pub invariant_of-self-2 : goal.invariant_of-self-2
 invariant_of-self-2 g c =
     let at = goal.at.invariant_of-self-2 g c in
-    begun-kept g.D.SectorDisk.disk (old g at.After-self) c.self.invariant (running g at.After-self)
+    raising c.start_ceiling.new.store c.self.inside.channels c.self.inside.queue c.begin_raise.new.self
+    c.self.inside.turn IsSoundEndpoint c.args.raise c.begin_raise.ensures (free g at.After-self)
+    (begun-kept g.D.SectorDisk.disk (old g at.After-self) c.self.invariant (running g at.After-self)
     (idle g at.After-self) (raise_of c.args.raise)
-    (first g at.After-self) c.start_ceiling.new.store (taken g at.After-start_ceiling c.in_ok-start_ceiling.was)
+    (first g at.After-self) c.start_ceiling.new.store (taken g at.After-start_ceiling c.in_ok-start_ceiling.was))
 
 pub returns : goal.returns
 returns g c =
     let at = goal.at.returns g c in
     let has = taken g at.After-start_ceiling c.in_ok-start_ceiling.was in
-    rw (← c.self.view_is) (record {
+    rw (← c.self.view_is)
+    (raising c.start_ceiling.new.store c.self.inside.channels c.self.inside.queue c.begin_raise.new.self
+    c.self.inside.turn (StartsRaise g.D.SectorDisk.disk (old g at.After-self) (raise_of c.args.raise) (Ok tt))
+    c.args.raise c.begin_raise.ensures (free g at.After-self)
+    (record {
       refused = tt;
       room = λ is. let no = (starts g at.After-start_ceiling (Ok tt) c.in_ok-start_ceiling.was).spent.1 is in cc;
       under_way = has;
@@ -70,4 +82,4 @@ returns g c =
           (idle g at.After-self)
           (raise_of c.args.raise) (first g at.After-self) c.start_ceiling.new.store has;
       sound = c.self.invariant;
-    })
+    }))

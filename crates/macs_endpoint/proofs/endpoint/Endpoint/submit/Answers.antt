@@ -14,8 +14,7 @@ returns-then-is_stopped g c = record {
 
 module _ (g : Over) (c : After-push g) where
   abbrev old : EndpointValue g.row.D.Denot
-  old = endpoint_of c.self.inside.store c.self.inside.channels c.self.inside.under_way c.self.inside.reserving
-      c.self.inside.queue c.self.inside.turn
+  old = endpoint_of c.self.inside.store c.self.inside.channels c.self.inside.queue c.self.inside.turn
 
   running : is_stopped old ≡ false
   running = ap (λ (e : EndpointValue g.row.D.Denot). is_stopped e) c.self.view_is ∙ sym c.is_stopped.ensures
@@ -23,15 +22,14 @@ module _ (g : Over) (c : After-push g) where
 
 pub invariant_of-self : goal.invariant_of-self
 invariant_of-self g c =
-    let at = (goal.at.invariant_of-self g c).After-push in
-    queued-kept g.D.SectorDisk.disk (old g at) c.args.command c.command_in_range.ensures c.self.invariant c.push.result
-    c.push.new.self c.push.ensures
+    queued-kept g.D.SectorDisk.disk c.self.inside.store c.self.inside.channels c.self.inside.queue c.self.inside.turn
+    c.args.command c.command_in_range.ensures c.self.invariant c.push.result c.push.new.self c.push.ensures
 
 pub returns : goal.returns
 returns g c =
     let at = (goal.at.returns g c).After-push in
     rw (← c.self.view_is) (record {
-      call = queued-submit g.D.SectorDisk.disk (old g at) c.args.command c.command_in_range.ensures c.self.invariant
-          (running g at) c.push.result
+      call = queued-submit g.D.SectorDisk.disk c.self.inside.store c.self.inside.channels c.self.inside.queue
+          c.self.inside.turn c.args.command c.command_in_range.ensures c.self.invariant (running g at) c.push.result
           c.push.new.self c.push.ensures;
     })

@@ -106,7 +106,8 @@ returns-in_err-step_compact g c =
     rw (risen.1, risen.2)
     (broken-compacts g.D.SectorDisk.disk c.args.self.now c.step_compact.new.self
     (listed g c.args.records.now) c.requires
-    (let so_far = i.most in let one = done.one in let some = some-left-compact c.loop-self.self.under_way (busy g path) in
+    (let so_far = i.most in let one = done.one in
+    let some = some-left-compact c.loop-self.self.under_way (busy g path) in
     omega (arith, so_far, one, some))
     c.in_err-step_compact.field-0.0 done.names done.after done.idle (done.at_fault ∙ i.place (busy g path))
     (record {

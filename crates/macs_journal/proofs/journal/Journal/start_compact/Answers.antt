@@ -23,7 +23,8 @@ returns g c =
       under_way = search (rules, head);
       left = (let counts = ap (λ (h : Head). h.count) head in search (rules, counts));
       holds = λ before holds.
-          compaction-under_way _ c.self.inside.place c.self.inside.under_way (record { head = c.in-Some.next; stage = ReadGate 0 })
+          compaction-under_way _ c.self.inside.place c.self.inside.under_way
+          (record { head = c.in-Some.next; stage = ReadGate 0 })
           before records
           head refl few (rw (← c.self.view_is) at holds);
     }

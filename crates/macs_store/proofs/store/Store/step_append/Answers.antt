@@ -48,7 +48,8 @@ returns-in-Appending g c =
     let its = fits-append d (old g at) (fits g at) (record_kept c.in-Appending.kept) is in
     rw (← c.self.view_is)
     (subst (λ (u : UnderWay). Steps d (old g at) (Ok Finished)
-    (record { journal = c.step.new.self; held = c.keep.new.self; under_way = under_way_of u })) (sym c.replace.ensures.after)
+    (record { journal = c.step.new.self; held = c.keep.new.self; under_way = under_way_of u }))
+    (sym c.replace.ensures.after)
     (append-finished d (old g at) its.0 (record_kept c.in-Appending.kept) is its.2 [] c.step.new.self c.keep.new.self
     c.keep.ensures
     (subst (λ (step : JournalStep). journal.Steps d c.self.inside.journal [] (Ok step) c.step.new.self) c.in-Finished.is

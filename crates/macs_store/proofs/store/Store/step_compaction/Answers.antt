@@ -8,7 +8,8 @@ use Rattle.macs_store.specs.Table.{standing_of}
 use Rattle.macs_record.specs.declared.record.Record.{Record}
 use Rattle.macs_store.specs.UnderWay.{Compacting, under_way_of, record_kept}
 use Rattle.macs_store.specs.Value.{FitsUnderWay, StoreValue}
-use Rattle.macs_store.proofs.Turns.{fits-compaction, compaction-failed, compaction-finished, compaction-on, compaction-room}
+use Rattle.macs_store.proofs.Turns.{fits-compaction, compaction-failed, compaction-finished, compaction-on}
+use Rattle.macs_store.proofs.Turns.{compaction-room}
 use Rattle.macs_store.proofs.store.Store.step_compaction.Given.{Over}
 use Rattle.macs_store.proofs.store.Store.step_compaction.Goals.{After-step_with_snapshot, In-Compacting}
 use Rattle.macs_store.proofs.store.Store.step_compaction.Goals as goal
