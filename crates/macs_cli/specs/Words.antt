@@ -305,15 +305,17 @@ abbrev pub FitsPace : Pace → Type 0
 FitsPace (Sleepless turns) = turns < 2 ^ 64
 FitsPace (Waiting limit turns) = IfSome turns (λ count. count < 2 ^ 64)
 
--- the numbers of the action, if it has any, fit in their types
+-- the numbers of an action on a disk, if it has any, fit in their types
 abbrev pub FitsOnDisk : DiskAction → Type 0
 FitsOnDisk (Format disk sci tx_block rx_block block is_over) = (tx_block < 2 ^ 32) × (rx_block < 2 ^ 32)
 FitsOnDisk action = ⊤
 
+-- those of an action on frames
 abbrev pub FitsOnFrames : FrameAction → Type 0
 FitsOnFrames (Relay disk controlled common running) = FitsPace running.pace
 FitsOnFrames action = ⊤
 
+-- those of any action
 abbrev pub FitsNumbers : Action → Type 0
 FitsNumbers (OnDisk action) = FitsOnDisk action
 FitsNumbers (OnFrames action) = FitsOnFrames action
