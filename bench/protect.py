@@ -1,14 +1,15 @@
 #!/usr/bin/env python3
 """Measures `macsecd protect` and `validate` beside sealing alone: time, peak memory, and the calls of the system.
 
-    python3 bench/protect.py [FOLDER] [FRAMES] [ROUNDS]
+    python3 bench/protect.py [FOLDER] [FRAMES] [ROUNDS] [OCTETS]
 
 FOLDER, where the captures and the disk file are made, should be on a real disk; it is the system's folder for temporary files unless
-one is named. FRAMES is 100,000, ROUNDS 10: more of them where other work on the machine disturbs. Frames have 1,500 octets, blocks 65,536 packet numbers. Both programs are built for one level of
-processors, x86-64-v3 unless MACSECD_CPU names another, and run in turn in each round; times are of the processor (user and system). `validate` takes what
-`protect` made, at another end; opening takes as long as sealing, to 3 of 100 (`bench/run`). Each ratio is given three times: of the two least times, of the
-two tenths (a tenth of the runs took less), and as the median of the rounds' own ratios.
-Each run writes a new file: to give back the pages of an old one would be counted too. strace, where there is one, counts the calls of one more run.
+one is named. FRAMES is 100,000, ROUNDS 10: more of them where other work on the machine disturbs. Frames have OCTETS octets, 1,500 unless
+another number is given; sealing alone is measured for 1,500. Blocks are 65,536 packet numbers. Both programs are built for one level of
+processors, x86-64-v3 unless MACSECD_CPU names another, and run in turn in each round; times are of the processor (user and system).
+`validate` takes what `protect` made, at another end; opening takes as long as sealing, to 3 of 100 (`bench/run`). Each ratio is given three
+times: of the two least times, of the two tenths (a tenth of the runs took less), and as the median of the rounds' own ratios. Each run
+writes a new file: to give back the pages of an old one would be counted too. strace, where there is one, counts the calls of one more run.
 """
 
 import os
@@ -54,21 +55,20 @@ offset = 0
 """
 
 
-def build():
-    """Builds both programs. The words of the one that seals alone."""
-    subprocess.run([PROVE, CPU], check=True, stdout=subprocess.DEVNULL)
+def build_sealing():
+    """Builds the program that seals alone. Its words."""
     tree = subprocess.run([os.path.join(TOP, "tools/tree_for"), CPU], check=True, capture_output=True, text=True).stdout.strip()
     crate = os.path.join(tree, "crates/frame_times")
     subprocess.run(["rt", "run", "--cpu", CPU], cwd=crate, check=True, stdout=subprocess.DEVNULL, stderr=subprocess.DEVNULL)
     return [os.path.join(crate, "out/frame_times"), "seal"]
 
 
-def write_capture(path, frames):
+def write_capture(path, frames, octets):
     header = struct.pack("<IHHIIII", 0xA1B2C3D4, 2, 4, 0, 0, 262144, 1)
     with open(path, "wb") as file:
         file.write(header)
         for i in range(frames):
-            file.write(struct.pack("<IIII", i, 0, 1500, 1500) + bytes(12) + b"\x08\x00" + bytes([i % 256]) * 1486)
+            file.write(struct.pack("<IIII", i, 0, octets, octets) + bytes(12) + b"\x08\x00" + bytes([i % 256]) * (octets - 14))
 
 
 def measured(command):
@@ -96,7 +96,9 @@ def traced(folder, command):
 
 def main():
     frames = int(sys.argv[2]) if len(sys.argv) > 2 else 100_000
-    seal = build()
+    octets = int(sys.argv[4]) if len(sys.argv) > 4 else 1500
+    subprocess.run([PROVE, CPU], check=True, stdout=subprocess.DEVNULL)
+    seal = [*build_sealing(), str(frames)] if octets == 1500 else ["true"]
     folder = tempfile.mkdtemp(dir=sys.argv[1] if len(sys.argv) > 1 else None)
     at = lambda name: os.path.join(folder, name)
     try:
@@ -104,13 +106,13 @@ def main():
             open(at("commands"), "w").write(commands)
             subprocess.run([PROGRAM, "format", at(disk), sci, "65536", "65536"], check=True)
             subprocess.run([PROGRAM, "apply", at(disk), at("commands")], check=True)
-        write_capture(at("few"), 1000)
-        write_capture(at("many"), frames)
+        write_capture(at("few"), 1000, octets)
+        write_capture(at("many"), frames, octets)
         protect = lambda name: [PROGRAM, "protect", at("disk"), at(name), at("out")]
-        print(f"for {CPU}; {frames} frames")
+        print(f"for {CPU}; {frames} frames of {octets} octets")
         rounds = []
         for _ in range(int(sys.argv[3]) if len(sys.argv) > 3 else ROUNDS):
-            sealing, _ = measured([*seal, str(frames)])
+            sealing, _ = measured(seal)
             whole, _ = measured(protect("many"))
             other, _ = measured([PROGRAM, "validate", at("other"), at("out"), at("plain")])
             assert os.path.getsize(at("plain")) == os.path.getsize(at("many"))
@@ -121,8 +123,10 @@ def main():
         for word, at_word in ("protect", 1), ("validate", 2):
             sealing, whole = sorted(it[0] for it in rounds), sorted(it[at_word] for it in rounds)
             for name, at_rank in ("the least", 0), ("the tenths", len(rounds) // 10):
-                print(f"{name}: sealing {sealing[at_rank]:.3f} s, {word} {whole[at_rank]:.3f} s, ratio {whole[at_rank] / sealing[at_rank]:.3f}")
-            print(f"the median of {len(rounds)} ratios: {median(it[at_word] / it[0] for it in rounds):.3f}")
+                beside = f", sealing {sealing[at_rank]:.3f} s, ratio {whole[at_rank] / sealing[at_rank]:.3f}" if octets == 1500 else ""
+                print(f"{name}: {word} {whole[at_rank]:.3f} s{beside}")
+            if octets == 1500:
+                print(f"the median of {len(rounds)} ratios: {median(it[at_word] / it[0] for it in rounds):.3f}")
         _, few = measured(protect("few"))
         _, many = measured(protect("many"))
         print(f"peak memory: {few:.1f} MiB with 1,000 frames, {many:.1f} MiB with {frames}")
