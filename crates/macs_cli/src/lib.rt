@@ -29,7 +29,7 @@ pub use output::{Line, append_count, append_text, print, print_last, print_octet
 pub use report_json::{json_lines, json_of_line};
 pub use status::Status;
 pub use stream::{PrintFailed, Stream, WriterStream};
-pub use values::{Given, ValueFault, given_by};
+pub use values::{FormatValues, ValueFault, format_values};
 pub use whole_writes::WholeWrites;
 pub use words::{
     Action, DiskAction, FrameAction, Milliseconds, Pace, PlanEnd, PlanStage, Question, Running,

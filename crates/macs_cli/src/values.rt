@@ -62,7 +62,7 @@ fn layout_of(block: Option<&str>) -> Option<Layout>
 
 /// The values given to `format`: those of the endpoint, and the layout of its file.
 #[derive(Clone, Copy)]
-pub struct Given {
+pub struct FormatValues {
     pub identity: Identity,
     pub layout: Layout,
 }
@@ -70,12 +70,12 @@ pub struct Given {
 /// Parses the values given to `format`. Fails with the first of: `Sci` if the text is not 16 hex
 /// digits, `TxBlock` and `RxBlock` if the number is not 1 to 65,536, `DeviceBlock` if a block size
 /// is named that is not `512` or `4096`.
-pub fn given_by(
+pub fn format_values(
     sci: &str,
     tx_block: u32,
     rx_block: u32,
     block: Option<&str>,
-) -> Result<Given, ValueFault>
+) -> Result<FormatValues, ValueFault>
     ensures identity { IfOk result
         (λ given. SpellsIdentity sci.now tx_block rx_block given.identity) }
     ensures layout { IfOk result
@@ -94,7 +94,7 @@ pub fn given_by(
         return Err(ValueFault::RxBlock);
     };
     match layout_of(block) {
-        Some(layout) => Ok(Given { identity, layout }),
+        Some(layout) => Ok(FormatValues { identity, layout }),
         None => Err(ValueFault::DeviceBlock),
     }
 }

@@ -74,7 +74,7 @@ fn run_side<D: SectorDisk, R: Source, W: Sink>(
 }
 
 /// The summary of a run with this answer, or the failure for its fault.
-fn failing_as(answer: Result<Summary, RunFault>) -> Result<Summary, Failure>
+fn summary_or_failure(answer: Result<Summary, RunFault>) -> Result<Summary, Failure>
     requires { IfErr answer IsNotBusyRun }
     ensures done { IfOk result (λ summary. answer ≡ Ok summary) }
     ensures failed { IfErr result
@@ -88,7 +88,7 @@ fn failing_as(answer: Result<Summary, RunFault>) -> Result<Summary, Failure>
 }
 
 /// Flushes all that was written in a run with this answer, even if a fault ended it.
-pub(crate) fn handed_on<W: Sink>(
+pub(crate) fn flush_after<W: Sink>(
     answer: Result<Summary, RunFault>,
     sink: &mut W,
 ) -> Result<Summary, Failure>
@@ -99,7 +99,7 @@ pub(crate) fn handed_on<W: Sink>(
         ⊎ (failure ≡ Failure.Capture)) }
 {
     let flushed = sink.flush();
-    let summary = failing_as(answer)?;
+    let summary = summary_or_failure(answer)?;
     match flushed {
         Ok(()) => Ok(summary),
         Err(_) => Err(Failure::Capture),
@@ -124,7 +124,7 @@ fn run_capture<D: SectorDisk, R: Source, W: Sink>(
         ⊎ (failure ≡ Failure.Capture)) }
 {
     let answer = run_side(alloc, endpoint, side, source, sink);
-    handed_on(answer, sink)
+    flush_after(answer, sink)
 }
 
 /// Passes a whole capture through an endpoint, flushes all that was written, and prints what became

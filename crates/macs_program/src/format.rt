@@ -13,7 +13,7 @@ ghost use Rattle.macs_program.specs.NewDisks.{FormatFails, Formats, MakesDisk};
 ghost use Rattle.macs_texts.specs.Lines.{line};
 
 use crate::new_disk::{NewFile, format_disk};
-use macs_cli::{Failure, Given, Status, Stream, given_by, print};
+use macs_cli::{Failure, FormatValues, Status, Stream, format_values, print};
 use macs_disk::DiskFile;
 use std::alloc::Global;
 use std::rt::Files;
@@ -23,7 +23,7 @@ fn format_given<T: Files, W: Stream>(
     rt: &T,
     alloc: Global,
     disk: &str,
-    given: Given,
+    given: FormatValues,
     is_over: bool,
     out: &mut W,
 ) -> Result<Status, Failure>
@@ -76,6 +76,6 @@ where
     ensures silent { IfErr result (λ failure. failure ≢ Failure.Output → out.new ≡ out.old) }
     ensures broken { IfErr result (λ failure. failure ≡ Failure.Output → W.failed out.new ≡ true) }
 {
-    let given = given_by(sci, tx_block, rx_block, block)?;
+    let given = format_values(sci, tx_block, rx_block, block)?;
     format_given(rt, alloc, disk, given, is_over, out)
 }

@@ -17,7 +17,7 @@ ghost use Rattle.macs_rxsc.specs.declared.verdict.Verdict.{Verdict};
 ghost use Rattle.macs_texts.specs.Counting.{verdict_words};
 
 use crate::captures::{Captures, SystemCaptures, open_both};
-use crate::capturing::{handed_on, pass_status, summary_line};
+use crate::capturing::{flush_after, pass_status, summary_line};
 use crate::task::{Task, with_file};
 use macs_cli::{
     CaptureFile, Failure, Line, Status, Stream, append_count, append_text, print_octets,
@@ -95,7 +95,7 @@ fn run_judging<D: SectorDisk, R: Source, S: Sink, W: Stream>(
     ensures failed { IfErr result IsOfRun }
 {
     let answer = run_validate_each(alloc, endpoint, source, sink, lines, out);
-    handed_on(answer, sink)
+    flush_after(answer, sink)
 }
 
 /// The same, except that a line that could not be printed is the failure.

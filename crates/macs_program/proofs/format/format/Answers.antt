@@ -12,7 +12,7 @@ returns-in_err-given g c =
     value-refused g.T.File.DiskFile.file g.W.Stream.contents g.W.Stream.failed c.args.is_over
     (SpellsIdentity c.args.sci.now c.args.tx_block c.args.rx_block)
     (SpellsLayout block) (ValueFaultHolds c.args.sci.now c.args.tx_block c.args.rx_block block) c.args.out.now
-    c.given_by.result c.given_by.ensures.fault
+    c.format_values.result c.format_values.ensures.fault
     c.in_err-given.field-0.0 p.0 c.from_residual.result c.in_err-given.was p.1 p.2 in
     record {
       printed = all.printed;
@@ -31,7 +31,7 @@ returns g c =
     formatted-by g.T.File.DiskFile.file g.W.Stream.contents g.W.Stream.failed c.args.is_over
     (SpellsIdentity c.args.sci.now c.args.tx_block c.args.rx_block)
     (SpellsLayout block) (ValueFaultHolds c.args.sci.now c.args.tx_block c.args.rx_block block) c.args.out.now
-    c.given_by.result c.given_by.ensures.fault
+    c.format_values.result c.format_values.ensures.fault
     given given.identity given.layout c.format_given.result c.format_given.new.out c.in_ok-given.was
     c.in_ok-given.ensures.identity
     c.in_ok-given.ensures.layout c.format_given.ensures in

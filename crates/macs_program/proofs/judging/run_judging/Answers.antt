@@ -4,8 +4,8 @@ use Rattle.macs_program.proofs.Captured.{judged}
 use Rattle.macs_offline.proofs.NoneWaits.{run-not-busy}
 use Rattle.macs_program.proofs.judging.run_judging.Goals as goal
 
-pub handed_on-requires : goal.handed_on-requires
-handed_on-requires g c =
+pub flush_after-requires : goal.flush_after-requires
+flush_after-requires g c =
     run-not-busy g.D.SectorDisk.disk Common
     (run_of c.args.endpoint.now (g.R.Source.state c.args.source.now) (g.S.Sink.state c.args.sink.now))
     (run_of c.run_validate_each-answer.new.endpoint (g.R.Source.state c.run_validate_each-answer.new.source)
@@ -19,7 +19,7 @@ returns-clause-judged g c =
       judged g.D.SectorDisk.disk
           (run_of c.args.endpoint.now (g.R.Source.state c.args.source.now) (g.S.Sink.state c.args.sink.now))
           c.run_validate_each-answer.new.endpoint (g.R.Source.state c.run_validate_each-answer.new.source)
-          (g.S.Sink.state c.run_validate_each-answer.new.sink) (g.S.Sink.state c.handed_on.new.sink)
-          c.run_validate_each-answer.result verdicts c.handed_on.result judges c.handed_on.ensures.ended,
+          (g.S.Sink.state c.run_validate_each-answer.new.sink) (g.S.Sink.state c.flush_after.new.sink)
+          c.run_validate_each-answer.result verdicts c.flush_after.result judges c.flush_after.ensures.ended,
       telling,
     )

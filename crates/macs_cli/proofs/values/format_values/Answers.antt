@@ -1,7 +1,7 @@
 use Rattle.std.proofs.Common.{Bor, List, ℕ, option_map, rules}
 use Rattle.macs_cli.specs.Values.{SpellsIdentity, ValueFaultHolds, value_faults}
 use Rattle.macs_cli.proofs.FirstFault.{first-holds, value-taken}
-use Rattle.macs_cli.proofs.values.given_by.Goals as goal
+use Rattle.macs_cli.proofs.values.format_values.Goals as goal
 
 pub returns-in-Some-layout_of-clause-fault : goal.returns-in-Some-layout_of-clause-fault
 returns-in-Some-layout_of-clause-fault c = λ fault.

@@ -5,7 +5,7 @@ use Rattle.macs_edge.specs.declared.capture_runs.Summary.{Summary}
 use Rattle.macs_program.specs.Capturing.{EndsWith}
 use Rattle.macs_cli.specs.declared.failure.Failure.TheVariants as failures
 use Rattle.macs_program.proofs.Captured.{flushed-or-not}
-use Rattle.macs_program.proofs.capturing.handed_on.Goals as goal
+use Rattle.macs_program.proofs.capturing.flush_after.Goals as goal
 
 pub returns-in_err-summary-clause-ended : goal.returns-in_err-summary-clause-ended
 returns-in_err-summary-clause-ended g c =
