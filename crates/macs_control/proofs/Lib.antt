@@ -9,3 +9,4 @@ pub mod Looking
 pub mod Reported
 pub mod Queued
 pub mod Served
+pub mod ServedClients

@@ -1,14 +1,23 @@
 //! `relay`: frames between two wires through an endpoint.
 
-ghost use Rattle.std.specs.Prelude.{◌≡◌, ◌≢◌, ◌⊎◌, ◌↔◌, Err, true, IfErr, IfOk};
+ghost use Rattle.std.specs.Prelude.{◌≡◌, ◌≢◌, ◌⊎◌, ◌↔◌, Err, [], List, None, Result, true};
+ghost use Rattle.std.specs.Prelude.{IfErr, IfOk};
 ghost use Rattle.std.specs.Io.KnownBytes.{Appends};
+ghost use Rattle.macs_control.specs.Serving.{ServesClients};
+ghost use Rattle.macs_control.specs.Unanswered.{entries_of};
+ghost use Rattle.macs_edge.specs.Attending.{IsAttended};
+ghost use Rattle.macs_edge.specs.Relaying.{empty_lane, relay_of};
+ghost use Rattle.macs_edge.specs.Wires.{WireState};
+ghost use Rattle.macs_edge.specs.declared.attending.DeskEvent.{DeskEvent};
 ghost use Rattle.macs_edge.specs.declared.relaying.RelaySummary.{RelaySummary};
+ghost use Rattle.macs_endpoint.specs.declared.fault.RefillFault.{RefillFault};
 ghost use Rattle.macs_fields.specs.First.{IsFirst};
 ghost use Rattle.macs_cli.specs.Addresses.{AddressFaultHolds, SpellsBoth, address_faults};
 ghost use Rattle.macs_cli.specs.Failing.{failure_status};
 ghost use Rattle.macs_offline.specs.Openings.{OpeningFails};
+ghost use Rattle.macs_offline.specs.Trying.{LookFails, TriesIn};
 ghost use Rattle.macs_cli.specs.declared.addresses.AddressFault.{AddressFault};
-ghost use Rattle.macs_program.specs.Relaying.{ComesTo, IsOfRelay, IsUnbound, RelayEndsIn};
+ghost use Rattle.macs_program.specs.Relaying.{ComesTo, IsOfRelay, IsUnbound, RelayEndsIn, Reports};
 ghost use Rattle.macs_program.specs.Relaying.{attended, course_of, is_attended, new_wire};
 ghost use Rattle.macs_program.specs.Relaying.{turns_of, unattended};
 ghost use Rattle.macs_program.specs.Summing.{relay_line};
@@ -18,8 +27,11 @@ use crate::attendants::{desk_for, leave};
 use crate::pacing::{Rest, limit_of};
 use crate::task::{Task, with_file};
 use crate::wires::{Wires, bind_wires};
-use macs_cli::{CaptureFile, Failure, Running, Status, Stream, WireEnds, addresses_of};
+use macs_cli::{CaptureFile, Failure, Pace, Running, Status, Stream, WireEnds, addresses_of};
+use macs_commands::requests::{Clients, Metrics};
 use macs_control::Notifier;
+use macs_control::desk::laws::clients_are_served;
+use macs_control::desk::{ControlDesk, KeyNotes, Overruns, Time};
 use macs_disk::SectorDisk;
 use macs_edge::{UdpWire, Unattended, Wire};
 use macs_endpoint::Endpoint;
@@ -33,6 +45,30 @@ fn is_attended(running: &Running) -> bool
     ensures { result ≡ is_attended running.now }
 {
     running.control.is_some() || running.metrics.is_some()
+}
+
+/// Relays frames between two wires, of which no call has been made yet, attended by a desk that
+/// serves clients: each command that one of them gave is answered to it once, in the order of
+/// tickets, `ok` only after the step that kept it.
+fn serve<D: SectorDisk, C: Clients, M: Metrics, S: Overruns + KeyNotes + Time, W: Stream>(
+    wires: Wires,
+    endpoint: &mut Endpoint<D>,
+    desk: &mut ControlDesk<C, M, S>,
+    pace: Pace,
+    out: &mut W,
+) -> Result<Status, Failure>
+    requires controlled { ⟦<UdpWire<Global, UdpSocket> as Wire>⟧.state wires.controlled ≡ new_wire }
+    requires common { ⟦<UdpWire<Global, UdpSocket> as Wire>⟧.state wires.common ≡ new_wire }
+    ensures { (answer : Result RelaySummary RefillFault) × (events : List DeskEvent)
+        × (controlled common : WireState) × IsAttended D.disk (turns_of pace)
+        (relay_of endpoint.old new_wire new_wire empty_lane empty_lane) events answer endpoint.new
+        controlled common
+        × (endpoint.old.waiting ≡ [] → entries_of desk.old.unanswered ≡ []
+        → ServesClients C.talk desk.old events desk.new)
+        × Reports W.contents W.failed answer out.old result out.new }
+{
+    clients_are_served::<D, C, M, S>();
+    wires.relay(endpoint, desk, pace, out)
 }
 
 /// Relays frames through an endpoint between two wires, of which no call has been made yet.
@@ -72,7 +108,7 @@ impl<T: Files + Net + Clock + Env> RelayWires<'_, T> {
         let mut desk = desk_for(rt, alloc, disk, &running, wires.sockets())?;
         let notifier = Notifier::of_environment(rt, alloc);
         notifier.ready();
-        let result = wires.relay(endpoint, &mut desk, running.pace, out);
+        let result = serve(wires, endpoint, &mut desk, running.pace, out);
         notifier.stopping();
         leave(rt, &running);
         result
@@ -117,7 +153,9 @@ fn unbound<T: Files>(rt: &T, alloc: Global, disk: &str, failure: Failure) -> Fai
 where
     T::File: CaptureFile,
     requires { (failure ≡ Failure.Memory) ⊎ (failure ≡ Failure.Wire) }
-    ensures { IsUnbound T.File.file result }
+    ensures kept { ((result ≡ failure) × TriesIn T.File.file None [] [])
+        ⊎ LookFails T.File.file result }
+    ensures unbound { IsUnbound T.File.file result }
 {
     match look_at(rt, alloc, disk) {
         Ok(()) => failure,

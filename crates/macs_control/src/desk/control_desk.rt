@@ -103,6 +103,12 @@ impl<
     M: Metrics,
     S: Overruns + KeyNotes + Time,
 > Desk<D, P, W> for ControlDesk<C, M, S> {
+    ghost use Rattle.macs_control.specs.Serving.{SpeaksToClients};
+    ghost use Rattle.macs_edge.specs.declared.attending.DeskEvent.TheVariants.{Answered, Rested};
+    ghost use Rattle.macs_edge.specs.declared.attending.DeskEvent.TheVariants.{Took, Wanted};
+
+    ghost hears = { λ old event new. SpeaksToClients C.talk old event new };
+
     fn next(&mut self, endpoint: &Endpoint<D>, controlled: &P, common: &W, was_quiet: bool) -> Order
         ensures talk { (talk : List Talk)
             × LooksIf (is_time was_quiet self.old.turns_left) was_quiet
@@ -129,6 +135,7 @@ impl<
         ensures unanswered { entries_of self.new.unanswered ≡ entries_of self.old.unanswered }
         ensures turns { self.new.turns_left
             ≡ turns_left (is_time was_quiet self.old.turns_left) self.old.turns_left result }
+        ensures hears { SpeaksToClients C.talk self.old (Wanted was_quiet result) self.new }
     {
         if !is_time(was_quiet, self.turns_left) {
             self.turns_left = self.turns_left.saturating_sub(1);
@@ -174,6 +181,8 @@ impl<
             ≡ unanswered_after (entries_of self.old.unanswered) self.old.asking answer }
         ensures asking { self.new.asking ≡ self.old.asking }
         ensures good { self.new.good ≡ self.old.good }
+        ensures turns { self.new.turns_left ≡ self.old.turns_left }
+        ensures hears { SpeaksToClients C.talk self.old (Took answer) self.new }
     {
         match answer {
             Ok(ticket) => self.unanswered.join(Submitted {
@@ -195,6 +204,8 @@ impl<
             ≡ without (entries_of self.old.unanswered) ticket }
         ensures asking { self.new.asking ≡ self.old.asking }
         ensures good { self.new.good ≡ self.old.good }
+        ensures turns { self.new.turns_left ≡ self.old.turns_left }
+        ensures hears { SpeaksToClients C.talk self.old (Answered ticket end) self.new }
     {
         match self.unanswered.leave(ticket.get()) {
             Some(client) => self.clients.say(client, ended(end).as_slice()),
@@ -204,6 +215,7 @@ impl<
 
     /// It rests in `next`, before it looks after its clients.
     fn rest(&mut self)
-        ensures { self.new ≡ self.old }
+        ensures same { self.new ≡ self.old }
+        ensures hears { SpeaksToClients C.talk self.old Rested self.new }
     {}
 }

@@ -1,14 +1,18 @@
 //! Laws of the definitions, for the layers above.
 
 ghost use Rattle.std.specs.Prelude.{◌≡◌, ℕ, [], List, Result};
-ghost use Rattle.macs_edge.specs.Attending.{Attends};
+ghost use Rattle.macs_edge.specs.Attending.{Attends, HearsAll};
 ghost use Rattle.macs_edge.specs.Relaying.{Relay, empty_lane};
 ghost use Rattle.macs_edge.specs.declared.attending.DeskEvent.{DeskEvent};
 ghost use Rattle.macs_edge.specs.declared.relaying.RelaySummary.{RelaySummary};
 ghost use Rattle.macs_endpoint.specs.declared.fault.RefillFault.{RefillFault};
 ghost use Rattle.macs_commands.specs.Talks.{Talk};
-ghost use Rattle.macs_control.specs.Serving.{ClientsAreTold, DeskState, Speaks};
+ghost use Rattle.macs_control.specs.Serving.{ClientsAreTold, DeskState, ServesClients, Speaks};
+ghost use Rattle.macs_control.specs.Serving.{SpeaksToClients};
+ghost use Rattle.macs_control.specs.Unanswered.{entries_of};
+ghost use Rattle.macs_control.specs.declared.desk.control_desk.ControlDesk.{ControlDesk};
 
+use macs_commands::requests::Clients;
 use macs_disk::SectorDisk;
 
 /// Over a whole relay that a desk attends, starting from an endpoint without pending commands: each
@@ -24,4 +28,14 @@ pub fn clients_are_told<D: SectorDisk>()
         → before.unanswered ≡ [] → Attends D.disk turns old events result new
         → Speaks before events talks after
         → ClientsAreTold before.asking events talks × (after.unanswered ≡ []) }
+{}
+
+/// The same of the program's desk: it serves its clients over a whole relay whose events come to it.
+pub fn clients_are_served<D: SectorDisk, C: Clients, M, S>()
+    ensures { (turns : ℕ) (old new : Relay D) (events : List DeskEvent)
+        (before after : ControlDesk C M S) (result : Result RelaySummary RefillFault)
+        → old.to_common ≡ empty_lane → old.to_controlled ≡ empty_lane → old.endpoint.waiting ≡ []
+        → entries_of before.unanswered ≡ [] → Attends D.disk turns old events result new
+        → HearsAll (SpeaksToClients C.talk) before events after
+        → ServesClients C.talk before events after }
 {}

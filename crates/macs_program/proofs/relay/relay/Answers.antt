@@ -49,7 +49,7 @@ returns-in-Err g c =
     (course_of c.args.running) c.args.out.now
     c.addresses_of.result c.addresses_of.ensures.fault words.addresses c.unbound.result (Err c.unbound.result)
     words.was refl
-    c.unbound.ensures in
+    c.unbound.ensures.unbound in
     record {
       printed = all.printed;
       address = all.address;

@@ -9,5 +9,5 @@ returns-in_err-desk g c =
 
 pub returns : goal.returns
 returns g c =
-    let (answer, events, controlled, common, attended, heard, reported) = c.relay-result.ensures in
+    let (answer, events, controlled, common, attended, served, reported) = c.serve-result.ensures in
     frames-relayed _ _ _ _ _ _ answer _ controlled common _ _ (events, attended) reported

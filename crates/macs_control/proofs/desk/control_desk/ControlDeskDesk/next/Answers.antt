@@ -1,8 +1,9 @@
-use Rattle.std.proofs.Common.{◌≡◌, ◌∙◌, true, ap, sym}
+use Rattle.std.proofs.Common.{◌≡◌, ◌∙◌, true, false, [], ap, refl, sym}
 use Rattle.macs_texts.specs.declared.program.Program.{Program}
-use Rattle.macs_control.specs.Listening.{is_time, measured_of}
+use Rattle.macs_control.specs.Listening.{is_time, measured_of, reports_of}
 use Rattle.macs_control.specs.Unanswered.{entries_of, is_full}
 use Rattle.macs_control.proofs.Looking.{looks-in-time, measures-in-time, same-measured, same-reports}
+use Rattle.macs_control.proofs.ServedClients.{with-none}
 use Rattle.macs_control.proofs.desk.control_desk.ControlDeskDesk.next.Goals as goal
 
 pub returns-clause-talk : goal.returns-clause-talk
@@ -27,3 +28,16 @@ returns-clause-notes g c =
     c.note_good.ensures.same
     ∙ same-measured c.args.self.now.program.build c.args.endpoint.now _ _ _ _ c.counts-controlled.ensures
     c.counts-common.ensures) c.measure.ensures
+
+pub returns-clause-hears : goal.returns-clause-hears
+returns-clause-hears g c =
+    let (talk, looks, passed) = returns-clause-talk g c in
+    (talk, (is_time c.args.was_quiet c.args.self.now.turns_left, _, looks, refl), passed)
+
+pub returns-then-not-is_time-clause-hears : goal.returns-then-not-is_time-clause-hears
+returns-then-not-is_time-clause-hears g c =
+    let desk = c.args.self.now in
+    let reports =
+    reports_of desk.program (g.S.Overruns.known desk.system) (g.S.KeyNotes.answers desk.system) c.args.endpoint.now
+    (g.P.Counted.wire_counts c.args.controlled.now) (g.W.Counted.wire_counts c.args.common.now) in
+    ([], (false, reports, (refl, refl, refl), refl), sym (with-none (g.C.Clients.talk desk.clients)))
