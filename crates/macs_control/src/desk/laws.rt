@@ -30,7 +30,7 @@ pub fn clients_are_told<D: SectorDisk>()
         → ClientsAreTold before.asking events talks × (after.unanswered ≡ []) }
 {}
 
-/// The same of the program's desk: it serves its clients over a whole relay whose events come to it.
+/// Of the program's desk, which serves its clients so over a whole relay whose events come to it.
 pub fn clients_are_served<D: SectorDisk, C: Clients, M, S>()
     ensures { (turns : ℕ) (old new : Relay D) (events : List DeskEvent)
         (before after : ControlDesk C M S) (result : Result RelaySummary RefillFault)
