@@ -50,6 +50,11 @@ HearsOf text hears.Silence left = left ≡ text
 HearsOf text hears.Ended left = (left ≡ text) × HasNoFeed text
 HearsOf text hears.Gone left = left ≡ text
 
+-- a line that is heard is one line
+abbrev pub IsOneLine : Hearing → Type 0
+IsOneLine (hears.Line line) = HasNoFeed line.items
+IsOneLine other = ⊤
+
 -- the same for the octets held and a connection whose octets are known; and nothing is sent
 abbrev pub Hears : List ℕ → Option Link → Hearing → List ℕ → Option Link → Type 0
 Hears held None heard kept new = ⊤

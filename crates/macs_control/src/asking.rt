@@ -67,9 +67,9 @@ fn put_line(text: &mut Vec<u8>, line: &Line) -> Result<(), AllocError>
 }
 
 impl<S: Connection> Asker<S> {
-    ghost use Rattle.std.specs.Prelude.{◌≡◌, ◌++◌, ◌∷◌, [], IfOk, IfSome, true};
-    ghost use Rattle.macs_control.specs.Asking.{BeginsWithAnswer, BeginsWithLine, seat_of, unread};
-    ghost use Rattle.macs_control.specs.Links.{GivesOctets};
+    ghost use Rattle.std.specs.Prelude.{◌≡◌, ◌++◌, ◌∷◌, [], IfErr, IfOk, IfSome, None, OnOk};
+    ghost use Rattle.macs_control.specs.Asking.{Reads, ReadsAnswer, ReadsLine, ReadsSome, Sends};
+    ghost use Rattle.macs_control.specs.Asking.{SendsSome, conversation_of, seat_of};
     ghost use Rattle.macs_control.specs.Seats.{connection_of, held_by};
 
     /// A client over a connection from which nothing was heard yet.
@@ -82,11 +82,13 @@ impl<S: Connection> Asker<S> {
         }
     }
 
-    /// Sends a line, to which its line feed is added.
+    /// Sends a line, to which its line feed is added. If that fails, its first octets may have been
+    /// sent.
     pub fn send(&mut self, alloc: Global, line: &str) -> Result<(), AskFault>
-        ensures sent { IfOk result (λ done. GivesOctets (S.link (connection_of (seat_of self.old)))
-            (S.link (connection_of (seat_of self.new))) (line.now ++ 10 ∷ []) true) }
-        ensures held { held_by (seat_of self.new) ≡ held_by (seat_of self.old) }
+        ensures sent { OnOk result (Sends (conversation_of S.link self.old) (line.now ++ 10 ∷ [])
+            (conversation_of S.link self.new)) }
+        ensures cut { IfErr result (λ fault. SendsSome (conversation_of S.link self.old)
+            (line.now ++ 10 ∷ []) (conversation_of S.link self.new)) }
     {
         let text = SecretText(text_of(alloc, MAX_LINE, format_args!("{line}\n"))?);
         if self.relay.try_send(text.0.as_str().as_bytes()) {
@@ -98,10 +100,10 @@ impl<S: Connection> Asker<S> {
     /// The next line. A read that does not complete a line takes at least one octet, or was
     /// interrupted.
     fn next_line(&mut self) -> Option<Line>
-        ensures { IfSome result (λ line. BeginsWithLine
-            (unread (held_by (seat_of self.old)) (S.link (connection_of (seat_of self.old))))
-            line.items
-            (unread (held_by (seat_of self.new)) (S.link (connection_of (seat_of self.new))))) }
+        ensures line { IfSome result (λ line. ReadsLine (conversation_of S.link self.old)
+            line.items (conversation_of S.link self.new)) }
+        ensures none { result ≡ None → Reads (conversation_of S.link self.old) []
+            (conversation_of S.link self.new) }
     {
         for _look in 0..=MAX_LINE {
             match self.relay.hear() {
@@ -115,10 +117,10 @@ impl<S: Connection> Asker<S> {
 
     /// The next line. Fails if there is none.
     fn line(&mut self) -> Result<Line, AskFault>
-        ensures { IfOk result (λ line. BeginsWithLine
-            (unread (held_by (seat_of self.old)) (S.link (connection_of (seat_of self.old))))
-            line.items
-            (unread (held_by (seat_of self.new)) (S.link (connection_of (seat_of self.new))))) }
+        ensures line { IfOk result (λ line. ReadsLine (conversation_of S.link self.old) line.items
+            (conversation_of S.link self.new)) }
+        ensures none { IfErr result (λ fault. Reads (conversation_of S.link self.old) []
+            (conversation_of S.link self.new)) }
     {
         match self.next_line() {
             Some(line) => Ok(line),
@@ -127,7 +129,9 @@ impl<S: Connection> Asker<S> {
     }
 
     /// Waits until the relay ends the connection, or sends nothing for a minute.
-    pub fn outlast(&mut self) {
+    pub fn outlast(&mut self)
+        ensures { ReadsSome (conversation_of S.link self.old) (conversation_of S.link self.new) }
+    {
         for _look in 0..MAX_LINES {
             match self.relay.hear() {
                 Hearing::Ended | Hearing::Gone => return,
@@ -136,12 +140,12 @@ impl<S: Connection> Asker<S> {
         }
     }
 
-    /// Reads an answer up to its end.
+    /// Reads an answer up to its end. If that fails, a part of it may have been read.
     pub fn answer(&mut self, alloc: Global) -> Result<Answer, AskFault>
-        ensures { IfOk result (λ answer. BeginsWithAnswer
-            (unread (held_by (seat_of self.old)) (S.link (connection_of (seat_of self.old))))
-            answer.text.items answer.status
-            (unread (held_by (seat_of self.new)) (S.link (connection_of (seat_of self.new))))) }
+        ensures answer { IfOk result (λ answer. ReadsAnswer (conversation_of S.link self.old)
+            answer.text.items answer.status (conversation_of S.link self.new)) }
+        ensures cut { IfErr result (λ fault. ReadsSome (conversation_of S.link self.old)
+            (conversation_of S.link self.new)) }
     {
         let mut text = Vec::new(alloc);
         for _line in 0..MAX_LINES {

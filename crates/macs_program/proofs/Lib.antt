@@ -3,6 +3,7 @@ pub mod AskedFor
 pub mod Captured
 pub mod Codes
 pub mod Complaining
+pub mod Conversed
 pub mod EachLine
 pub mod Failed
 pub mod InFiles
@@ -10,6 +11,7 @@ pub mod JudgedFiles
 pub mod Made
 pub mod Performed
 pub mod Printing
+pub mod Refused
 pub mod Relayed
 pub mod Told
 mod WrittenOver

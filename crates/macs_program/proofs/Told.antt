@@ -1,25 +1,23 @@
--- What a relay was asked, and the lines of commands that it was handed, one after another.
-use Rattle.std.proofs.Common.{◌≡◌, ◌≢◌, ◌⊎◌, ◌∙◌, inl, inr, ℕ, ◌+◌, ◌==◌, Bool, true, false, if◌then◌else◌, List, []}
-use Rattle.std.proofs.Common.{◌∷◌, ◌++◌, OnOk, Some, None}
-use Rattle.std.proofs.Common.{◌↔◌, IsTrue, drop, length, Option, is_some, Result, Ok, Err, ap, refl, subst, sym, arith}
+-- What a relay was asked, and what comes of it.
+use Rattle.std.proofs.Common.{◌≡◌, ◌≢◌, ◌⊎◌, ◌∙◌, inl, inr, ℕ, ◌==◌, Bool, true, false, if◌then◌else◌, List, []}
+use Rattle.std.proofs.Common.{◌++◌, IfErr, IfOk, Some, None, ◌↔◌, IsTrue, drop, length, Option, Result, Ok, Err, ap}
+use Rattle.std.proofs.Common.{Bor, codes, refl, string_bytes, subst, sym}
 use Rattle.std.specs.Io.KnownBytes.{Appends}
-use Rattle.std.proofs.KnownBytes.{Appends-nil, Appends-trans}
-use Rattle.std.proofs.lemmas.List.{length_push}
-use Rattle.std.proofs.lemmas.Result.{IfErr-weaker}
-use Rattle.macs_config.specs.declared.refusal.Refusal.{Refusal}
-use Rattle.macs_control.specs.Asking.{BeginsWithAnswer, unread}
-use Rattle.macs_control.specs.Links.{GivesOctets, Link}
-use Rattle.macs_offline.specs.Applying.{outcome_line, outcome_lines, outcomes_status}
-use Rattle.macs_program.specs.Asking.{AskFails, AsksForText, BeginsWithOwn, HandsCommands, IsBeforeCommands}
-use Rattle.macs_program.specs.Asking.{IsForOther, IsOfAsking, IsUnanswered, SaysNothing, SaysOfAsking, SaysOfCommands}
-use Rattle.macs_program.specs.Asking.{SaysOfSocket, TellsOfSocket, failure_in, failure_of_other, is_of_endpoint}
-use Rattle.macs_program.specs.Asking.{sci_line}
+use Rattle.std.proofs.KnownBytes.{Appends-nil}
+use Rattle.macs_config.specs.declared.command.Command.{Command}
+use Rattle.macs_commands.specs.declared.requests.request.Request.{Request}
+use Rattle.macs_commands.specs.declared.requests.request.Request.TheVariants as request
+use Rattle.macs_control.specs.Asking.{Conversation, ReadsSome}
+use Rattle.macs_program.specs.Asking.{AppliesEach, AppliesFile, AskFails, AsksForText, Converses, EndsAsking}
+use Rattle.macs_program.specs.Asking.{IsForOther, IsOfAsking, IsOther, IsUnanswered, IsUnheard, IsUnshown, LacksEnd}
+use Rattle.macs_program.specs.Asking.{LacksOutcome, PrintsAnswer, PrintsFront, SaysNoMore, SaysNothing, SaysOfAsking}
+use Rattle.macs_program.specs.Asking.{SaysOfCommands, SaysOfSocket, TellsOfSocket, failure_in, is_of_endpoint}
 use Rattle.macs_offline.specs.Checking.{IsSaidOfFile}
+use Rattle.macs_cli.specs.Objects.{in_form}
 use Rattle.macs_cli.specs.Reasons.{Complains, IsUnread, Tells, TellsOfFile}
 use Rattle.macs_program.specs.Sockets.{socket_text}
 use Rattle.macs_program.specs.declared.socket_reason.SocketReason.{SocketReason}
 use Rattle.macs_program.specs.declared.socket_reason.SocketReason.TheVariants as reason
-use Rattle.std.proofs.Common.{codes, string_bytes}
 use Rattle.macs_cli.specs.declared.words.action.Question.{Question}
 use Rattle.macs_cli.specs.declared.words.action.Question.TheVariants as question
 use Rattle.macs_journal.specs.declared.fault.JournalFault.TheVariants as journal
@@ -28,39 +26,8 @@ use Rattle.macs_cli.specs.declared.failure.Failure.TheVariants as failures
 use Rattle.macs_cli.specs.declared.failure.Failure.{Failure}
 use Rattle.macs_cli.specs.declared.failure.Failure.TheVariants.{Commands, Control, Memory, Output}
 use Rattle.macs_cli.specs.declared.status.Status.{Status}
-use Rattle.macs_cli.specs.declared.status.Status.TheVariants.{Refused}
-use Rattle.macs_offline.proofs.Applied.{lines-more, status-more}
+use Rattle.macs_cli.specs.declared.status.Status.TheVariants as ends
 use Rattle.macs_record.specs.Sectors.{Begins}
-
--- so many lines were printed, and this is the status of them all
-abbrev pub TellsSo : Option (List ℕ) → Option (List ℕ) → ℕ → Status → Type 0
-TellsSo before known count status = (outcomes : List (Option Refusal)) × (length outcomes ≡ count)
-    × Appends before known (outcome_lines 1 outcomes) × (status ≡ outcomes_status outcomes)
-
--- one line more
-pub one-told : (before known after : Option (List ℕ)) (count : ℕ) (status now : Status) (refused : Bool)
-    (outcome : Option Refusal)
-    → TellsSo before known count status → now ≡ (if refused then Refused else status) → refused ≡ is_some outcome
-    → Appends known after (outcome_line (count + 1) outcome) → TellsSo before after (count + 1) now
-one-told before known after count status now refused outcome (outcomes, counted, printed, status_is) now_is is line =
-    let place : count + 1 ≡ 1 + length outcomes = omega (arith, counted) in
-    let more : length (outcomes ++ outcome ∷ []) ≡ length outcomes + 1 = length_push outcomes outcome in (
-      outcomes ++ outcome ∷ [],
-      omega (arith, more, counted),
-      subst (λ (text : List ℕ). Appends before after text) (sym (lines-more 1 outcomes outcome))
-          (Appends-trans before known after (outcome_lines 1 outcomes)
-          (outcome_line (1 + length outcomes) outcome) printed
-          (subst (λ (at : ℕ). Appends known after (outcome_line at outcome)) place line)),
-      now_is ∙ ap (λ (b : Bool). if b then Refused else status) is
-          ∙ ap (λ (s : Status). if is_some outcome then Refused else s) status_is ∙ sym (status-more outcomes outcome),
-    )
-
--- the lines before a command that was not answered
-pub front-told : (before known after : Option (List ℕ)) (count : ℕ) (status : Status)
-    → TellsSo before known count status → after ≡ known
-    → (outcomes : List (Option Refusal)) × Appends before after (outcome_lines 1 outcomes)
-front-told before known after count status (outcomes, counted, printed, status_is) same =
-    (outcomes, subst (λ (k : Option (List ℕ)). Appends before k (outcome_lines 1 outcomes)) (sym same) printed)
 
 -- a text begins with a line
 pub shown-by : (line text front octets : List ℕ) (is : Bool) → front ≡ line → octets ≡ text
@@ -74,26 +41,6 @@ shown-by line text front octets is same whole begun back = (
   ),
   λ begins. back begins.0 (whole ∙ begins.1 ∙ ap (λ (l : List ℕ). l ++ begins.0) (sym same)),
 )
-
--- ---- what a relay says
-
--- nothing of it is lost while a line is sent
-pub heard-after : (held kept : List ℕ) (old new : Option Link) (octets text : List ℕ) (status : ℕ)
-    (rest : Option (List ℕ))
-    → GivesOctets old new octets true → kept ≡ held → BeginsWithAnswer (unread kept new) text status rest
-    → BeginsWithAnswer (unread held old) text status rest
-heard-after held kept None new octets text status rest given same begins = tt
-heard-after held kept (Some old) new octets text status rest given same begins =
-    subst (λ (all : Option (List ℕ)). BeginsWithAnswer all text status rest)
-    (ap (λ (front : List ℕ). unread front new) same ∙ ap (λ (link : Option Link). unread held link) given) begins
-
--- its answer is the text of the endpoint with this SCI
-pub own-shown : {T : Type 0} (all rest : Option (List ℕ)) (sci text : List ℕ) (status : ℕ) (result : Result T Failure)
-    → BeginsWithAnswer all text status rest → OnOk result ((status ≡ 0) × Begins (sci_line sci) text)
-    → OnOk result (BeginsWithOwn all sci rest)
-own-shown all rest sci text status (Ok done) heard own =
-    (text, own.1, subst (λ (s : ℕ). BeginsWithAnswer all text s rest) own.0 heard)
-own-shown all rest sci text status (Err failure) heard own = tt
 
 -- ---- what comes of it
 
@@ -134,13 +81,9 @@ module _ (Says : List ℕ → Type 0) where
   early-more Others more failure (inr (inr (inr (text, said, says)))) =
       inr (inr (inr (text, said, more (string_bytes text) says)))
 
--- no memory, or a print that failed
-pub print-failed : (failure : Failure) → (failure ≡ Memory) ⊎ (failure ≡ Output) → IsOfAsking SaysNothing failure
-print-failed failure (inl memory) = subst (IsOfAsking SaysNothing) (sym memory) tt
-print-failed failure (inr output) = subst (IsOfAsking SaysNothing) (sym output) tt
-
-pub before-commands : (failure : Failure) → IsEarly SaysNothing failure → IsBeforeCommands failure
-before-commands failure early = (early-asking SaysNothing failure early, early-no-output SaysNothing failure early)
+-- before a command is sent there is no message, and nothing was printed
+abbrev pub IsBeforeCommands : Failure → Type 0
+IsBeforeCommands failure = IsOfAsking SaysNothing failure × (failure ≢ Output)
 
 by_status : (a b : Bool) → IsBeforeCommands
     (if a then failures.Disk (disk.Journal journal.Stopped) else (if b then Memory else Control))
@@ -152,33 +95,52 @@ by_status false false = (tt, λ e. cc)
 pub not-shown : (status : ℕ) → IsBeforeCommands (failure_in status)
 not-shown status = by_status (status == 4) (status == 5)
 
-not_commands_by : (a b : Bool)
-    → (if a then failures.Disk (disk.Journal journal.Stopped) else (if b then Memory else Control)) ≢ Commands
-not_commands_by true b = λ e. cc
-not_commands_by false true = λ e. cc
-not_commands_by false false = λ e. cc
-
-pub not-commands : (status : ℕ) → failure_in status ≢ Commands
-not-commands status = not_commands_by (status == 4) (status == 5)
-
-of_endpoint_by : (b : Bool) → (if b then Commands else Control) ≡ Commands → b ≡ true
-of_endpoint_by true is = refl
-of_endpoint_by false is = absurd (let wrong : Control ≡ Commands = is in cc)
-
--- a text that is not that of the end which a file names is that of another one, where the commands are the cause
-pub of-endpoint : (text octets : List ℕ) (failure : Failure) → failure ≡ failure_of_other octets → octets ≡ text
-    → failure ≡ Commands → is_of_endpoint text ≡ true
-of-endpoint text octets failure cause whole is =
-    subst (λ (t : List ℕ). is_of_endpoint t ≡ true) whole (of_endpoint_by (is_of_endpoint octets) (sym cause ∙ is))
-
-pub no-answer : (Says : List ℕ → Type 0) (failure : Failure) → (failure ≡ Memory) ⊎ (failure ≡ Control)
-    → IsEarly Says failure
-no-answer Says failure (inl memory) = inl memory
-no-answer Says failure (inr control) = inr (inl control)
-
 pub complained : (Holds : List ℕ → Type 0) (failure : Failure) → Complains Holds failure → IsEarly Holds failure
 complained Holds failure (inl memory) = inl memory
 complained Holds failure (inr (text, is, holds)) = inr (inr (inr (text, is, holds)))
+
+pub before-unheard : (failure : Failure) → IsUnheard failure → IsBeforeCommands failure
+before-unheard failure (inl memory) = subst IsBeforeCommands (sym memory) (tt, λ e. cc)
+before-unheard failure (inr control) = subst IsBeforeCommands (sym control) (tt, λ e. cc)
+
+before-status : (status : ℕ) (failure : Failure) → failure ≡ failure_in status → IsBeforeCommands failure
+before-status status failure is = subst IsBeforeCommands (sym is) (not-shown status)
+
+before_other_by : (b : Bool) → IsBeforeCommands (if b then Commands else Control)
+before_other_by true = (tt, λ e. cc)
+before_other_by false = (tt, λ e. cc)
+
+before-other : (sci : List ℕ) (status : ℕ) (text : List ℕ) (failure : Failure) → IsOther sci status text failure
+    → IsBeforeCommands failure
+before-other sci status text failure (inl (some, is)) = before-status status failure is
+before-other sci status text failure (inr (none, inl memory)) = before-unheard failure (inl memory)
+before-other sci status text failure (inr (none, inr (another, is))) =
+    subst IsBeforeCommands (sym is) (before_other_by (is_of_endpoint text))
+
+-- a relay that does not show that it is the end that a file names
+pub before-end : (old new : Option Conversation) (end : Option (List ℕ)) (failure : Failure)
+    → LacksEnd old end failure new → IsBeforeCommands failure
+before-end old new None failure lacks = absurd lacks
+before-end old new (Some sci) failure (inl (vain, unheard)) = before-unheard failure unheard
+before-end old new (Some sci) failure (inr (text, status, asked, other)) = before-other sci status text failure other
+
+-- a command that is neither accepted nor refused
+pub before-outcome : (old new : Option Conversation) (command : Command) (failure : Failure)
+    → LacksOutcome old command failure new → IsBeforeCommands failure
+before-outcome old new command failure (inl (vain, unheard)) = before-unheard failure unheard
+before-outcome old new command failure (inr (text, status, asked, is)) = before-status status failure is.failed.0
+
+ended-asking : (old new : Option Conversation) (command : Command) (failure : Failure)
+    → EndsAsking old command failure new → IsOfAsking SaysNothing failure
+ended-asking old new command failure (inl lacks) = (before-outcome old new command failure lacks).0
+ended-asking old new command failure (inr (outcome, asked, output)) =
+    subst (IsOfAsking SaysNothing) (sym output) tt
+
+unshown-asking : (status : ℕ) (is_json : Bool) (failure : Failure) → IsUnshown status is_json failure
+    → IsOfAsking SaysNothing failure
+unshown-asking status is_json failure (inl (some, is)) = (before-status status failure is).0
+unshown-asking status is_json failure (inr (none, inl output)) = subst (IsOfAsking SaysNothing) (sym output) tt
+unshown-asking status is_json failure (inr (none, inr (json, unheard))) = (before-unheard failure unheard).0
 
 pub no-commands : (name : List ℕ) (failure : Failure)
     → IsUnread name failure ⊎ ((octets : List ℕ) × Complains (IsSaidOfFile octets) failure)
@@ -198,10 +160,6 @@ pub not-connected : (name : List ℕ) (why : SocketReason) (failure : Failure)
     → Complains (Tells (codes "control") name (socket_text why)) failure → TellsOfSocket name failure
 not-connected name why failure (inl memory) = inl memory
 not-connected name why failure (inr (text, is, tells)) = inr (text, is, (why, tells))
-
-pub not-reached : (name : List ℕ) (failure : Failure) → TellsOfSocket name failure
-    → IsEarly (SaysOfSocket name) failure
-not-reached name failure fails = complained (SaysOfSocket name) failure fails
 
 module _ (name : List ℕ) (asked : Question) where
   -- a failure says of which socket or file it is
@@ -271,6 +229,16 @@ module _ (name : List ℕ) (asked : Question) where
   named-fails Output named ours is = subst (AskFails name asked) (sym (is.same (λ e. cc) (λ e. cc))) tt
   named-fails failure named ours is = absurd ours
 
+  -- nobody is asked
+  pub unreached-fails : (failure : Failure) → TellsOfSocket name failure → AskFails name asked failure
+  unreached-fails failure complains =
+      complained-so name asked (SaysOfSocket name) (of-socket name asked) failure complains
+
+  pub unreached-unbroken : (failure : Failure) (has_failed : Bool) → TellsOfSocket name failure → failure ≡ Output
+      → has_failed ≡ true
+  unreached-unbroken failure has_failed complains output =
+      absurd (complained-no-output (SaysOfSocket name) failure complains output)
+
   pub output-named : (failure named : Failure) → IsOfAsking (SaysOfAsking name asked) failure
       → Named name asked failure named → named ≡ Output → failure ≡ Output
   output-named Control named ours is e = absurd (unanswered-no-output name named (is.gone refl) e)
@@ -285,85 +253,133 @@ module _ (name : List ℕ) (asked : Question) where
   named-output failure named is other output =
       other (is.same (λ e. let f = sym output ∙ e in cc) (λ e. let f = sym output ∙ e in cc) ∙ output)
 
-module _ {W : Type 0} (Says : List ℕ → Type 0) (contents : W → Option (List ℕ)) (has_failed : W → Bool)
-    (before : W) where
-  -- no text comes, and nothing is printed
-  pub not-asked : (is_json : Bool) (fault failure : Failure) (result : Result Status Failure) → result ≡ Err failure
-      → failure ≡ fault → IsEarly Says fault → AsksForText is_json Says contents has_failed before result before
-  not-asked is_json fault failure result is same early =
-      let named = subst (IsEarly Says) (sym same) early in
-      subst (λ (r : Result Status Failure). AsksForText is_json Says contents has_failed before r before) (sym is)
+-- ---- what is printed, and how it fails, before each failure names its socket or file
+
+-- these hold after a question was put
+pub record PutSo (Says : List ℕ → Type 0) (asked : Question) (is_json : Bool) (before after : Option (List ℕ))
+    (has_failed : Bool) (result : Result Status Failure) : Type 0 where
+  pub printed : IfOk result (PrintsAnswer asked is_json before after)
+  pub failed : IfErr result (IsOfAsking Says)
+  pub front : IfErr result (λ failure. failure ≢ Output → PrintsFront asked before after)
+  pub broken : IfErr result (λ failure. failure ≡ Output → has_failed ≡ true)
+
+-- nothing was printed
+pub nothing-printed : (asked : Question) (before : Option (List ℕ)) → PrintsFront asked before before
+nothing-printed question.Show before = refl
+nothing-printed question.Counters before = refl
+nothing-printed question.Keys before = refl
+nothing-printed question.Traffic before = refl
+nothing-printed question.About before = refl
+nothing-printed question.Stop before = refl
+nothing-printed (question.Apply file) before = ([], Appends-nil before)
+
+module _ {W : Type 0} (contents : W → Option (List ℕ)) (has_failed : W → Bool) (name : List ℕ)
+    (old : Option Conversation) (before : W) (new : Option Conversation) (after : W) where
+  -- a text was printed, or nothing
+  pub record TextSo (Says : List ℕ → Type 0) (is_json : Bool) (result : Result Status Failure) : Type 0 where
+    pub printed : IfOk result (λ status. (text : List ℕ)
+        × Appends (contents before) (contents after) (in_form is_json text) × (status ≡ ends.Done))
+    pub failed : IfErr result (IsOfAsking Says)
+    pub front : IfErr result (λ failure. failure ≢ Output → contents after ≡ contents before)
+    pub broken : IfErr result (λ failure. failure ≡ Output → has_failed after ≡ true)
+
+  text-so : (Says : List ℕ → Type 0) (asked : Request) (Follows : Option Conversation → Option Conversation → Type 0)
+      (is_json : Bool) (result : Result Status Failure)
+      → AsksForText contents has_failed asked Follows is_json old before result new after
+      → TextSo Says is_json result
+  text-so Says asked Follows is_json (Ok status) is = record {
+    printed = (is.printed.0, is.printed.2, is.printed.3);
+    failed = tt;
+    front = tt;
+    broken = tt;
+  }
+  text-so Says asked Follows is_json (Err failure) is = record {
+    printed = tt;
+    failed = asking-more SaysNothing Says (λ said none. absurd none) failure (elim is.failed [
+      | inl vain ↦ (before-unheard failure vain.1).0
+      | inr shown ↦ unshown-asking shown.1 is_json failure shown.3
+    ]);
+    front = λ other. ap contents (is.silent other);
+    broken = is.broken;
+  }
+
+  each-so : (Says : List ℕ → Type 0) (file : Bor (List ℕ)) (is_json : Bool) (commands : List Command)
+      (between : Option Conversation) (result : Result Status Failure)
+      → AppliesEach contents has_failed commands between before result new after
+      → PutSo Says (question.Apply file) is_json (contents before) (contents after) (has_failed after) result
+  each-so Says file is_json commands between (Ok status) is = record {
+    printed = (is.applied.outcomes, is.applied.printed, is.applied.status_is);
+    failed = tt;
+    front = tt;
+    broken = tt;
+  }
+  each-so Says file is_json commands between (Err failure) is = record {
+    printed = tt;
+    failed = asking-more SaysNothing Says (λ said none. absurd none) failure
+        (ended-asking is.ended.between new is.ended.command failure is.ended.ended);
+    front = λ other. (is.ended.outcomes, is.ended.printed other);
+    broken = is.broken;
+  }
+
+  -- nothing was printed of the commands of a file
+  unsent-so : (Says : List ℕ → Type 0) (file : Bor (List ℕ)) (is_json : Bool) (failure : Failure)
+      (result : Result Status Failure) → result ≡ Err failure → after ≡ before → IsOfAsking Says failure
+      → failure ≢ Output
+      → PutSo Says (question.Apply file) is_json (contents before) (contents after) (has_failed after) result
+  unsent-so Says file is_json failure result is same ours other =
+      subst (λ (r : Result Status Failure).
+      PutSo Says (question.Apply file) is_json (contents before) (contents after) (has_failed after) r) (sym is)
       (record {
         printed = tt;
-        failed = early-asking Says failure named;
-        silent = λ other. refl;
-        broken = λ output. absurd (early-no-output Says failure named output);
-      })
-
-  -- nothing is handed in, since the file is for another end, or the relay does not say
-  pub not-found : (fault failure : Failure) (result : Result Status Failure) → result ≡ Err failure → failure ≡ fault
-      → IsBeforeCommands fault → HandsCommands Says contents has_failed before result before
-  not-found fault failure result is same early =
-      let named = subst IsBeforeCommands (sym same) early in
-      subst (λ (r : Result Status Failure). HandsCommands Says contents has_failed before r before) (sym is) (record {
-        printed = tt;
-        failed = asking-more SaysNothing Says (λ said is. absurd is) failure named.0;
-        front = λ other. ([], Appends-nil (contents before));
-        broken = λ output. absurd (named.1 output);
-      })
-
-  -- nothing is handed in
-  pub not-handed : (fault failure : Failure) (result : Result Status Failure) → result ≡ Err failure → failure ≡ fault
-      → IsEarly Says fault → HandsCommands Says contents has_failed before result before
-  not-handed fault failure result is same early =
-      let named = subst (IsEarly Says) (sym same) early in
-      subst (λ (r : Result Status Failure). HandsCommands Says contents has_failed before r before) (sym is) (record {
-        printed = tt;
-        failed = early-asking Says failure named;
-        front = λ other. ([], Appends-nil (contents before));
-        broken = λ output. absurd (early-no-output Says failure named output);
-      })
-
-  -- a command is not answered
-  pub stopped-handing : (known after : W) (count : ℕ) (status : Status) (fault failure : Failure)
-      (result : Result Status Failure)
-      → TellsSo (contents before) (contents known) count status → result ≡ Err failure → failure ≡ fault
-      → IsOfAsking Says fault → (fault ≢ Output → after ≡ known) → (fault ≡ Output → has_failed after ≡ true)
-      → HandsCommands Says contents has_failed before result after
-  stopped-handing known after count status fault failure result so_far is same ours silent broken =
-      subst (λ (r : Result Status Failure). HandsCommands Says contents has_failed before r after)
-      (sym (is ∙ ap Err same)) (record {
-        printed = tt;
         failed = ours;
-        front = λ other. front-told (contents before) (contents known) (contents after) count status so_far
-            (ap contents (silent other));
-        broken = broken;
+        front = λ more. (
+          [],
+          subst (λ (k : Option (List ℕ)). Appends (contents before) k [])
+              (sym (ap contents same)) (Appends-nil (contents before)),
+        );
+        broken = λ output. absurd (other output);
       })
 
-  -- all are answered
-  pub all-handed : (after : W) (count : ℕ) (status : Status) → TellsSo (contents before) (contents after) count status
-      → HandsCommands Says contents has_failed before (Ok status) after
-  all-handed after count status (outcomes, counted, printed, status_is) =
-      record { printed = (outcomes, printed, status_is); failed = tt; front = tt; broken = tt }
+  file-so : {F : Type 0} (remaining : F → Option (List ℕ)) (file : Bor (List ℕ)) (is_json : Bool)
+      (result : Result Status Failure)
+      → AppliesFile remaining contents has_failed file.now old before result new after
+      → PutSo (SaysOfAsking name (question.Apply file)) (question.Apply file) is_json (contents before) (contents after)
+      (has_failed after) result
+  file-so remaining file is_json result (inl (failure, is, of_file, same, unprinted)) =
+      let early = no-commands file.now failure of_file in
+      unsent-so (SaysOfAsking name (question.Apply file)) file is_json failure result is unprinted
+      (asking-more (SaysOfCommands file.now) (SaysOfAsking name (question.Apply file)) (λ said is. inr is) failure
+      (early-asking (SaysOfCommands file.now) failure early))
+      (early-no-output (SaysOfCommands file.now) failure early)
+  file-so remaining file is_json result (inr (end, commands, said, inl (failure, is, lacks, unprinted))) =
+      let early = before-end old new end failure lacks in
+      unsent-so (SaysOfAsking name (question.Apply file)) file is_json failure result is unprinted
+      (asking-more SaysNothing (SaysOfAsking name (question.Apply file)) (λ said none. absurd none) failure early.0)
+      early.1
+  file-so remaining file is_json result (inr (end, commands, said, inr (between, shown, each))) =
+      each-so (SaysOfAsking name (question.Apply file)) file is_json commands between result each
 
--- what else may be said
-module _ {W : Type 0} (Says Others : List ℕ → Type 0) (more : (said : List ℕ) → Says said → Others said)
-    (contents : W → Option (List ℕ)) (has_failed : W → Bool) (before : W) (result : Result Status Failure)
-    (after : W) where
-  pub text-more : (is_json : Bool) → AsksForText is_json Says contents has_failed before result after
-      → AsksForText is_json Others contents has_failed before result after
-  text-more is_json is = record {
-    printed = is.printed;
-    failed = IfErr-weaker result _ _ (λ failure ours. asking-more Says Others more failure ours) is.failed;
-    silent = is.silent;
-    broken = is.broken;
-  }
-
-  pub hands-more : HandsCommands Says contents has_failed before result after
-      → HandsCommands Others contents has_failed before result after
-  hands-more is = record {
-    printed = is.printed;
-    failed = IfErr-weaker result _ _ (λ failure ours. asking-more Says Others more failure ours) is.failed;
-    front = is.front;
-    broken = is.broken;
-  }
+  -- what a conversation says of what is printed
+  pub put-so : {F : Type 0} (remaining : F → Option (List ℕ)) (asked : Question) (is_json : Bool)
+      (result : Result Status Failure)
+      → Converses remaining contents has_failed asked is_json old before result new after
+      → PutSo (SaysOfAsking name asked) asked is_json (contents before) (contents after) (has_failed after) result
+  put-so remaining question.Show is_json result is =
+      let so = text-so (SaysOfSocket name) request.Show SaysNoMore is_json result is in
+      record { printed = so.printed; failed = so.failed; front = so.front; broken = so.broken }
+  put-so remaining question.Counters is_json result is =
+      let so = text-so (SaysOfSocket name) request.Counters SaysNoMore is_json result is in
+      record { printed = so.printed; failed = so.failed; front = so.front; broken = so.broken }
+  put-so remaining question.Keys is_json result is =
+      let so = text-so (SaysOfSocket name) request.Keys SaysNoMore is_json result is in
+      record { printed = so.printed; failed = so.failed; front = so.front; broken = so.broken }
+  put-so remaining question.Traffic is_json result is =
+      let so = text-so (SaysOfSocket name) request.Traffic SaysNoMore is_json result is in
+      record { printed = so.printed; failed = so.failed; front = so.front; broken = so.broken }
+  put-so remaining question.About is_json result is =
+      let so = text-so (SaysOfSocket name) request.About SaysNoMore is_json result is in
+      record { printed = so.printed; failed = so.failed; front = so.front; broken = so.broken }
+  put-so remaining question.Stop is_json result is =
+      let so = text-so (SaysOfSocket name) request.Stop ReadsSome false result is in
+      record { printed = so.printed; failed = so.failed; front = so.front; broken = so.broken }
+  put-so remaining (question.Apply file) is_json result is = file-so remaining file is_json result is

@@ -2,12 +2,14 @@
 #![tactic(auto)]
 
 mod about;
+mod answering;
 mod apply;
 mod asking;
 mod attendants;
 mod build;
 mod captures;
 mod capturing;
+mod conversing;
 mod counters_name;
 mod format;
 mod input;
@@ -20,10 +22,12 @@ mod relay;
 mod relay_system;
 mod relaying;
 pub mod run;
+mod sending;
 mod show;
 mod socket_reason;
 mod task;
 mod wires;
 
+pub use conversing::converse;
 pub use input::{Input, InputText, ReadFailed, ReaderInput};
 pub use macs_cli::{CaptureFile, Failure, WriterStream};

@@ -1,0 +1,133 @@
+//! Answers of a relay to requests over any connection, and the texts of them that are printed.
+
+ghost use Rattle.std.specs.Prelude.{◌≡◌, ◌≢◌, ◌⊎◌, IfErr, IfOk, OnOk, true, false};
+ghost use Rattle.std.specs.Io.KnownBytes.{Appends};
+ghost use Rattle.macs_control.specs.Asking.{ReadsSome, conversation_of};
+ghost use Rattle.macs_cli.specs.Objects.{in_form, json_text};
+ghost use Rattle.macs_program.specs.Asking.{Asks, AsksForText, AsksInVain, IsUnheard};
+ghost use Rattle.macs_program.specs.Asking.{IsUnprinted, IsUnshown, SaysNoMore, failure_in};
+
+use macs_cli::{DiskFault, Failure, Status, Stream, print_json, print_octets};
+use macs_commands::requests::{Request, line_of_request};
+use macs_commands::secrets::SecretText;
+use macs_control::{Answer, Asker, Connection};
+use macs_journal::JournalFault;
+use std::alloc::Global;
+use std::str;
+
+/// The relay's answer to a request. Fails with `Memory` if this program has none, and with
+/// `Control` if the relay goes away or does not answer.
+pub fn answer_to<S: Connection>(
+    alloc: Global,
+    asker: &mut Asker<S>,
+    request: &Request,
+) -> Result<Answer, Failure>
+    ensures asked { IfOk result (λ answer. Asks (conversation_of S.link asker.old) request.now
+        answer.text.items answer.status (conversation_of S.link asker.new)) }
+    ensures vain { IfErr result (λ failure. AsksInVain (conversation_of S.link asker.old)
+        request.now (conversation_of S.link asker.new)) }
+    ensures failed { IfErr result IsUnheard }
+{
+    let line = SecretText(line_of_request(alloc, request)?);
+    asker.send(alloc, line.0.as_str())?;
+    let answer = asker.answer(alloc)?;
+    Ok(answer)
+}
+
+/// The meaning of the status of an answer if the request was not carried out.
+pub fn failure_in(status: u8) -> Failure
+    ensures { result ≡ failure_in status }
+{
+    match status {
+        4 => Failure::Disk(DiskFault::Journal(JournalFault::Stopped)),
+        5 => Failure::Memory,
+        _ => Failure::Control,
+    }
+}
+
+/// Prints the text of an answer as JSON. Fails with `Memory`; with `Control` if the text is not
+/// UTF-8, as a relay's text always is; and with `Output`.
+fn print_as_json<W: Stream>(alloc: Global, text: &[u8], out: &mut W) -> Result<(), Failure>
+    ensures printed { OnOk result
+        (Appends (W.contents out.old) (W.contents out.new) (json_text text.now)) }
+    ensures failed { IfErr result
+        (λ failure. (failure ≡ Failure.Output) ⊎ IsUnheard failure) }
+    ensures silent { IfErr result (λ failure. failure ≢ Failure.Output → out.new ≡ out.old) }
+    ensures broken { IfErr result (λ failure. failure ≡ Failure.Output → W.failed out.new ≡ true) }
+{
+    let Ok(text) = str::from_utf8(text) else {
+        return Err(Failure::Control);
+    };
+    print_json(alloc, text, out)
+}
+
+/// Prints the text of an answer, as JSON if requested. Fails as `print_as_json` does.
+fn print_text<W: Stream>(
+    alloc: Global,
+    text: &[u8],
+    is_json: bool,
+    out: &mut W,
+) -> Result<(), Failure>
+    ensures printed { OnOk result
+        (Appends (W.contents out.old) (W.contents out.new) (in_form is_json text.now)) }
+    ensures failed { IfErr result (IsUnprinted is_json) }
+    ensures silent { IfErr result (λ failure. failure ≢ Failure.Output → out.new ≡ out.old) }
+    ensures broken { IfErr result (λ failure. failure ≡ Failure.Output → W.failed out.new ≡ true) }
+{
+    if is_json {
+        return print_as_json(alloc, text, out);
+    }
+    print_octets(out, text)
+}
+
+/// Prints the text of an answer, as JSON if requested, if the request was carried out.
+fn print_answer<W: Stream>(
+    alloc: Global,
+    answer: &Answer,
+    is_json: bool,
+    out: &mut W,
+) -> Result<Status, Failure>
+    ensures printed { IfOk result (λ status. (answer.now.status ≡ 0)
+        × Appends (W.contents out.old) (W.contents out.new)
+        (in_form is_json answer.now.text.items) × (status ≡ Status.Done)) }
+    ensures failed { IfErr result (IsUnshown answer.now.status is_json) }
+    ensures silent { IfErr result (λ failure. failure ≢ Failure.Output → out.new ≡ out.old) }
+    ensures broken { IfErr result (λ failure. failure ≡ Failure.Output → W.failed out.new ≡ true) }
+{
+    if answer.status != 0 {
+        return Err(failure_in(answer.status));
+    }
+    print_text(alloc, answer.text.as_slice(), is_json, out)?;
+    Ok(Status::Done)
+}
+
+/// Asks a relay for a text, and prints it, as JSON if requested.
+pub fn ask_once<S: Connection, W: Stream>(
+    alloc: Global,
+    asker: &mut Asker<S>,
+    request: Request,
+    is_json: bool,
+    out: &mut W,
+) -> Result<Status, Failure>
+    ensures { AsksForText W.contents W.failed request SaysNoMore is_json
+        (conversation_of S.link asker.old) out.old result (conversation_of S.link asker.new)
+        out.new }
+{
+    let answer = answer_to(alloc, asker, &request)?;
+    print_answer(alloc, &answer, is_json, out)
+}
+
+/// Asks a relay to end, and waits until it has ended: its last line is printed then.
+pub fn ask_stop<S: Connection, W: Stream>(
+    alloc: Global,
+    asker: &mut Asker<S>,
+    out: &mut W,
+) -> Result<Status, Failure>
+    ensures { AsksForText W.contents W.failed Request.Stop ReadsSome false
+        (conversation_of S.link asker.old) out.old result (conversation_of S.link asker.new)
+        out.new }
+{
+    let answer = answer_to(alloc, asker, &Request::Stop)?;
+    asker.outlast();
+    print_answer(alloc, &answer, false, out)
+}
