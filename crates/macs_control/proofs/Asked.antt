@@ -1,10 +1,10 @@
 -- What is said between a client and a relay.
-use Rattle.std.proofs.Common.{◌≡◌, ◌∙◌, ℕ, List, [], ◌∷◌, ◌++◌, Option, Some, None, true, false, sym, ap, refl, subst}
+use Rattle.std.proofs.Common.{◌≡◌, ◌∙◌, ℕ, List, [], ◌∷◌, ◌++◌, Option, Some, None, sym, ap, refl, subst}
 use Rattle.std.proofs.Common.{IfErr, Result, Ok, Err}
 use Rattle.std.proofs.lemmas.List.{append-nil, append_assoc}
 use Rattle.macs_commands.specs.Requests.{end_line}
-use Rattle.macs_control.specs.Asking.{Conversation, Reads, ReadsAnswer, ReadsSome, Sends, SendsSome, conversation}
-use Rattle.macs_control.specs.Links.{GivesOctets, Hears, Link}
+use Rattle.macs_control.specs.Asking.{Conversation, Reads, ReadsAnswer, ReadsSome, SendsSome, conversation}
+use Rattle.macs_control.specs.Links.{Hears, Link}
 use Rattle.macs_control.specs.declared.seat.Hearing.{Hearing}
 use Rattle.macs_control.specs.declared.seat.Hearing.TheVariants as hears
 
@@ -86,21 +86,3 @@ pub sends-none : (c : Option Conversation) (octets : List ℕ) → SendsSome c o
 sends-none None octets = ([], octets, refl, tt)
 sends-none (Some c) octets =
     ([], octets, refl, ap (λ (sent : List ℕ). Some (record c { sent = sent })) (sym (append-nil c.sent)))
-
--- octets are sent
-pub sent-whole : (held kept : List ℕ) (old new : Option Link) (octets : List ℕ) → kept ≡ held
-    → GivesOctets old new octets true → Sends (conversation held old) octets (conversation kept new)
-sent-whole held kept None new octets same given = tt
-sent-whole held kept (Some old) new octets same given =
-    ap (λ (k : List ℕ). conversation k new) same ∙ ap (λ (o : Option Link). conversation held o) given
-
--- the first of them are sent
-pub sent-some : (held kept : List ℕ) (old new : Option Link) (octets : List ℕ) → kept ≡ held
-    → GivesOctets old new octets false → SendsSome (conversation held old) octets (conversation kept new)
-sent-some held kept None new octets same given = ([], octets, refl, tt)
-sent-some held kept (Some old) new octets same (first, rest, cut, given) = (
-  first,
-  rest,
-  cut,
-  ap (λ (k : List ℕ). conversation k new) same ∙ ap (λ (o : Option Link). conversation held o) given,
-)

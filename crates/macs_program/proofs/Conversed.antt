@@ -10,8 +10,8 @@ use Rattle.macs_config.specs.declared.refusal.Refusal.{Refusal}
 use Rattle.macs_commands.specs.Requests.{request_line}
 use Rattle.macs_commands.specs.declared.requests.request.Request.{Request}
 use Rattle.macs_commands.specs.declared.requests.request.Request.TheVariants as request
-use Rattle.macs_control.specs.Asking.{Conversation, ReadsAnswer, ReadsSome, Sends, SendsSome}
-use Rattle.macs_control.proofs.Asked.{reads-none, sends-none}
+use Rattle.macs_control.specs.Asking.{Conversation, ReadsSome, Sends, SendsSome}
+use Rattle.macs_control.proofs.Asked.{reads-none}
 use Rattle.macs_offline.specs.Applying.{SaidByFile, outcome_line, outcome_lines}
 use Rattle.macs_offline.proofs.Applied.{lines-more, parted, status-more}
 use Rattle.macs_program.specs.Asking.{AppliesEach, AppliesFile, Asks, AsksAll, AsksEach, AsksInVain, AsksOne, AsksSome}
@@ -26,35 +26,29 @@ use Rattle.macs_record.specs.Sectors.{Begins}
 -- ---- a request and its answer
 
 module _ (old : Option Conversation) (asked : Request) where
-  -- nothing is sent
-  pub vain-none : AsksInVain old asked old
-  vain-none = (old, sends-none old (request_line asked ++ 10 ∷ []), ([], reads-none old))
+  -- the line of it is sent
+  pub line-sent : (new : Option Conversation) (line : List ℕ) → line ≡ request_line asked
+      → Sends old (line ++ 10 ∷ []) new → Sends old (request_line asked ++ 10 ∷ []) new
+  line-sent new line is sent = subst (λ (l : List ℕ). Sends old (l ++ 10 ∷ []) new) is sent
 
-  -- a part of it is sent
-  pub vain-sent : (new : Option Conversation) (line : List ℕ) → line ≡ request_line asked
-      → SendsSome old (line ++ 10 ∷ []) new → AsksInVain old asked new
-  vain-sent new line is cut =
-      (new, subst (λ (l : List ℕ). SendsSome old (l ++ 10 ∷ []) new) is cut, ([], reads-none new))
+  -- or a part of that line
+  pub line-cut : (new : Option Conversation) (line : List ℕ) → line ≡ request_line asked
+      → SendsSome old (line ++ 10 ∷ []) new → SendsSome old (request_line asked ++ 10 ∷ []) new
+  line-cut new line is cut = subst (λ (l : List ℕ). SendsSome old (l ++ 10 ∷ []) new) is cut
+
+  -- then nothing is read
+  pub vain-sent : (new : Option Conversation) → SendsSome old (request_line asked ++ 10 ∷ []) new
+      → AsksInVain old asked new
+  vain-sent new cut = (new, cut, ([], reads-none new))
 
   -- it is sent, and a part of an answer is read
-  pub vain-read : (between new : Option Conversation) (line : List ℕ) → line ≡ request_line asked
-      → Sends old (line ++ 10 ∷ []) between → ReadsSome between new → AsksInVain old asked new
-  vain-read between new line is sent read = (
+  pub vain-read : (between new : Option Conversation) → Sends old (request_line asked ++ 10 ∷ []) between
+      → ReadsSome between new → AsksInVain old asked new
+  vain-read between new sent read = (
     between,
-    (
-      line ++ 10 ∷ [],
-      [],
-      ap (λ (l : List ℕ). l ++ 10 ∷ []) (sym is) ∙ sym (append-nil (line ++ 10 ∷ [])),
-      sent,
-    ),
+    (request_line asked ++ 10 ∷ [], [], sym (append-nil (request_line asked ++ 10 ∷ [])), sent),
     read,
   )
-
-  -- it is answered
-  pub answered : (between new : Option Conversation) (line text : List ℕ) (status : ℕ) → line ≡ request_line asked
-      → Sends old (line ++ 10 ∷ []) between → ReadsAnswer between text status new → Asks old asked text status new
-  answered between new line text status is sent read =
-      (between, subst (λ (l : List ℕ). Sends old (l ++ 10 ∷ []) between) is sent, read)
 
 -- ---- an answer to a command
 

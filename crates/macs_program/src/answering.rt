@@ -1,8 +1,9 @@
 //! Answers of a relay to requests over any connection, and the texts of them that are printed.
 
-ghost use Rattle.std.specs.Prelude.{◌≡◌, ◌≢◌, ◌⊎◌, IfErr, IfOk, OnOk, true, false};
+ghost use Rattle.std.specs.Prelude.{◌≡◌, ◌≢◌, ◌⊎◌, ◌++◌, ◌∷◌, [], IfErr, IfOk, OnOk, true, false};
 ghost use Rattle.std.specs.Io.KnownBytes.{Appends};
-ghost use Rattle.macs_control.specs.Asking.{ReadsSome, conversation_of};
+ghost use Rattle.macs_commands.specs.Requests.{request_line};
+ghost use Rattle.macs_control.specs.Asking.{ReadsSome, Sends, SendsSome, conversation_of};
 ghost use Rattle.macs_cli.specs.Objects.{in_form, json_text};
 ghost use Rattle.macs_program.specs.Asking.{Asks, AsksForText, AsksInVain, IsUnheard};
 ghost use Rattle.macs_program.specs.Asking.{IsUnprinted, IsUnshown, SaysNoMore, failure_in};
@@ -14,6 +15,24 @@ use macs_control::{Answer, Asker, Connection};
 use macs_journal::JournalFault;
 use std::alloc::Global;
 use std::str;
+
+/// Sends a request to a relay. Fails with `Memory` if this program has none, and with `Control` if
+/// the relay goes away.
+fn send_request<S: Connection>(
+    alloc: Global,
+    asker: &mut Asker<S>,
+    request: &Request,
+) -> Result<(), Failure>
+    ensures sent { OnOk result (Sends (conversation_of S.link asker.old)
+        (request_line request.now ++ 10 ∷ []) (conversation_of S.link asker.new)) }
+    ensures cut { IfErr result (λ failure. SendsSome (conversation_of S.link asker.old)
+        (request_line request.now ++ 10 ∷ []) (conversation_of S.link asker.new)) }
+    ensures failed { IfErr result IsUnheard }
+{
+    let line = SecretText(line_of_request(alloc, request)?);
+    asker.send(alloc, line.0.as_str())?;
+    Ok(())
+}
 
 /// The relay's answer to a request. Fails with `Memory` if this program has none, and with
 /// `Control` if the relay goes away or does not answer.
@@ -28,8 +47,7 @@ pub fn answer_to<S: Connection>(
         request.now (conversation_of S.link asker.new)) }
     ensures failed { IfErr result IsUnheard }
 {
-    let line = SecretText(line_of_request(alloc, request)?);
-    asker.send(alloc, line.0.as_str())?;
+    send_request(alloc, asker, request)?;
     let answer = asker.answer(alloc)?;
     Ok(answer)
 }
