@@ -22,6 +22,7 @@ abbrev pub conversation : List ℕ → Option Link → Option Conversation
 conversation held None = None
 conversation held (Some link) = Some (record { unread = held ++ link.coming; sent = link.given })
 
+-- the conversation of a client
 abbrev pub conversation_of : {S : Type 0} → (S → Option Link) → Asker S → Option Conversation
 conversation_of link asker = conversation (held_by (seat_of asker)) (link (connection_of (seat_of asker)))
 
