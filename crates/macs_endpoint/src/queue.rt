@@ -62,7 +62,7 @@ impl Default for Waiting {
 }
 
 /// The pending commands, in order, what is under way, and how many tickets were given. A pending
-/// command that is under way is the first, and has no copy.
+/// command that is under way is the first, and is not copied here.
 #[derive(Drop)]
 pub(crate) struct Queue {
     waiting: ArrayVec<Waiting, QUEUE>,
