@@ -20,3 +20,4 @@ mod Told
 mod Whole
 mod Lengths
 mod Feeds
+pub mod InTurns

@@ -13,4 +13,5 @@ pub mod Cutting
 pub mod CommandLines
 pub mod Requests
 pub mod Inboxes
+pub mod InTurn
 pub mod Talks

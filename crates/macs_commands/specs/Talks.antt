@@ -1,6 +1,5 @@
 -- What passes between a desk and its clients, and when the counters are written.
-use Rattle.std.specs.Prelude.{ℕ, Bool, List, ◌++◌, Option}
-use Rattle.std.specs.Option.{option_map}
+use Rattle.std.specs.Prelude.{ℕ, Bool, List, Option}
 use Rattle.macs_commands.specs.declared.requests.clients.Client.{Client}
 use Rattle.macs_commands.specs.declared.requests.clients.Heard.{Heard as HeardLine}
 
@@ -12,15 +11,7 @@ pub data Talk : Type 0 where
   Slept : Talk
   Looked : (ended : Bool) → Talk
 
--- what passed, if known, and this
-abbrev pub with_talk : Option (List Talk) → List Talk → Option (List Talk)
-with_talk noted more = option_map (λ before. before ++ more) noted
-
 -- it was asked whether a text is due, with this answer; a text was given to be written
 pub data Note : Type 0 where
   Asked : (due : Bool) → Note
   Put : (text : List ℕ) → Note
-
--- what was noted, if known, and this
-abbrev pub with_notes : Option (List Note) → List Note → Option (List Note)
-with_notes noted more = option_map (λ before. before ++ more) noted

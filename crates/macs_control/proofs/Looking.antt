@@ -4,8 +4,9 @@ use Rattle.macs_config.specs.declared.command.Command.{Command}
 use Rattle.macs_edge.specs.declared.attending.Order.{Order}
 use Rattle.macs_edge.specs.declared.counts.WireCounts.{WireCounts}
 use Rattle.macs_endpoint.specs.Value.{EndpointValue}
-use Rattle.macs_edge.proofs.Flowing.{gained-more}
-use Rattle.macs_commands.specs.Talks.{Note, Talk, with_notes, with_talk}
+use Rattle.macs_commands.specs.InTurn.{InTurn}
+use Rattle.macs_commands.specs.Talks.{Note, Talk}
+use Rattle.macs_commands.proofs.InTurns.{and-then}
 use Rattle.macs_commands.specs.declared.requests.clients.Client.{Client}
 use Rattle.macs_texts.specs.declared.build.Build.{Build}
 use Rattle.macs_texts.specs.declared.program.Program.{Program}
@@ -30,12 +31,12 @@ same-measured build endpoint a b c d first second =
     ∙ ap (λ (w : WireCounts). measured_of build endpoint b w) second
 
 -- it sleeps after a quiet turn, and looks
-pub looks-in-time : (is was_quiet full known_full : Bool) (reports known : Reports) (old new : Client) (order : Order)
-    (before between after : Option (List Talk)) → is ≡ true → known_full ≡ full → known ≡ reports
-    → between ≡ with_talk before (sleep_after was_quiet)
-    → (more : List Talk) × Looks known_full known old more order new × (after ≡ with_talk between more)
-    → (talk : List Talk) × LooksIf is was_quiet full reports old talk order new × (after ≡ with_talk before talk)
-looks-in-time is was_quiet full known_full reports known old new order before between after time same_full same slept
+pub looks-in-time : {C : Type 0} (Does : C → Talk → C → Type 0) (is was_quiet full known_full : Bool)
+    (reports known : Reports) (old new : Client) (order : Order) (before between after : C) → is ≡ true
+    → known_full ≡ full → known ≡ reports → InTurn Does before (sleep_after was_quiet) between
+    → (more : List Talk) × Looks known_full known old more order new × InTurn Does between more after
+    → (talk : List Talk) × LooksIf is was_quiet full reports old talk order new × InTurn Does before talk after
+looks-in-time Does is was_quiet full known_full reports known old new order before between after time same_full same slept
     looked = (
       sleep_after was_quiet ++ looked.0,
       rw time (
@@ -44,15 +45,15 @@ looks-in-time is was_quiet full known_full reports known old new order before be
         subst (λ (f : Bool). Looks f reports old looked.0 order new) same_full
             (subst (λ (r : Reports). Looks known_full r old looked.0 order new) same looked.1),
       ),
-      gained-more before between after (sleep_after was_quiet) looked.0 slept looked.2,
+      and-then Does before between after (sleep_after was_quiet) looked.0 slept looked.2,
     )
 
 -- the metrics are written where they are due
-pub measures-in-time : (is : Bool) (dropped : Option Dropped) (text known : Dropped → List ℕ)
-    (before after : Option (List Note)) → is ≡ true → known ≡ text
-    → (notes : List Note) × Measures dropped known notes × (after ≡ with_notes before notes)
-    → (notes : List Note) × MeasuresIf is dropped text notes × (after ≡ with_notes before notes)
-measures-in-time is dropped text known before after time same measured = (
+pub measures-in-time : {M : Type 0} (Does : M → Note → M → Type 0) (is : Bool) (dropped : Option Dropped)
+    (text known : Dropped → List ℕ) (before after : M) → is ≡ true → known ≡ text
+    → (notes : List Note) × Measures dropped known notes × InTurn Does before notes after
+    → (notes : List Note) × MeasuresIf is dropped text notes × InTurn Does before notes after
+measures-in-time Does is dropped text known before after time same measured = (
   measured.0,
   rw time (subst (λ (t : Dropped → List ℕ). Measures dropped t measured.0) same measured.1),
   measured.2,

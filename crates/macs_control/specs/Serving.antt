@@ -5,7 +5,8 @@ use Rattle.macs_edge.specs.Commanding.{Ended, ended_by, tickets_taken}
 use Rattle.macs_edge.specs.declared.attending.CommandEnd.{CommandEnd}
 use Rattle.macs_edge.specs.declared.attending.DeskEvent.{DeskEvent}
 use Rattle.macs_edge.specs.declared.attending.DeskEvent.TheVariants.{Answered, Rested, Took, Wanted}
-use Rattle.macs_commands.specs.Talks.{Talk, Heard, Said, with_talk}
+use Rattle.macs_commands.specs.InTurn.{InTurn}
+use Rattle.macs_commands.specs.Talks.{Talk, Heard, Said}
 use Rattle.macs_commands.specs.declared.requests.clients.Client.{Client}
 use Rattle.macs_control.specs.Listening.{LooksIf, Reports, said_of_ending, said_of_taking, unanswered_after}
 use Rattle.macs_control.specs.Replies.{ended_text}
@@ -96,18 +97,17 @@ pub record ClientsAreTold (asking : Client) (events : List DeskEvent) (talks : L
 abbrev pub state_of_desk : {C M S : Type 0} → ControlDesk C M S → DeskState
 state_of_desk desk = record { unanswered = entries_of desk.unanswered; asking = desk.asking }
 
--- what passes between it and its clients at an event, where that is known
-abbrev pub SpeaksToClients : {C M S : Type 0} → (C → Option (List Talk)) → ControlDesk C M S → DeskEvent
+-- what passes between it and its clients at an event: `Does` is what an exchange makes of the clients
+abbrev pub SpeaksToClients : {C M S : Type 0} → (C → Talk → C → Type 0) → ControlDesk C M S → DeskEvent
     → ControlDesk C M S → Type 0
-SpeaksToClients talk_of old event new = (talk : List Talk)
-    × SpeaksAt (state_of_desk old) event talk (state_of_desk new)
-    × (talk_of new.clients ≡ with_talk (talk_of old.clients) talk)
+SpeaksToClients Does old event new = (talk : List Talk)
+    × SpeaksAt (state_of_desk old) event talk (state_of_desk new) × InTurn Does old.clients talk new.clients
 
 -- over a whole relay, in which these events came to it: what passes between it and its clients has the result of each
 -- command that one of them gave, once, in the order of tickets; and no command is left
-pub record ServesClients {C M S : Type 0} (talk_of : C → Option (List Talk)) (before : ControlDesk C M S)
+pub record ServesClients {C M S : Type 0} (Does : C → Talk → C → Type 0) (before : ControlDesk C M S)
     (events : List DeskEvent) (after : ControlDesk C M S) : Type 0 where
   pub talks : List (List Talk)
-  pub passed : talk_of after.clients ≡ with_talk (talk_of before.clients) (flat_map (λ (talk : List Talk). talk) talks)
+  pub passed : InTurn Does before.clients (flat_map (λ (talk : List Talk). talk) talks) after.clients
   pub told : ClientsAreTold before.asking events talks
   pub left : entries_of after.unanswered ≡ []

@@ -7,7 +7,9 @@ use Rattle.macs_endpoint.specs.Value.{EndpointValue}
 use Rattle.macs_endpoint.specs.declared.fault.StepFault.{StepFault}
 use Rattle.macs_endpoint.specs.declared.progress.Step.{Step as Progress}
 use Rattle.macs_endpoint.specs.declared.queue.Waiting.{Waiting}
-use Rattle.macs_edge.specs.Attending.{AttendsTurns, Does, HearsAll, Obeys, TakesAllAttended, TakesAttended, failed_of}
+use Rattle.macs_edge.specs.Attending.{AttendsTurns, Does, Obeys, TakesAllAttended, TakesAttended, failed_of}
+use Rattle.macs_commands.specs.InTurn.{InTurn}
+use Rattle.macs_commands.proofs.InTurns.{and-then}
 use Rattle.macs_edge.specs.Attending.{goes_on, rests_after}
 use Rattle.macs_edge.specs.declared.attending.CommandEnd.TheVariants.{Failed}
 use Rattle.macs_edge.specs.declared.attending.DeskEvent.{DeskEvent}
@@ -21,21 +23,15 @@ use Rattle.macs_edge.specs.declared.attending.Order.TheVariants.{Go, Submit, End
 -- ---- what a desk hears
 
 module _ {K : Type 0} (hears : K → DeskEvent → K → Type 0) where
-  pub hears-append : (a b c : K) (events more : List DeskEvent) → HearsAll hears a events b → HearsAll hears b more c
-      → HearsAll hears a (events ++ more) c
-  hears-append a b c [] more same heard = subst (λ (k : K). HearsAll hears k more c) same heard
-  hears-append a b c (event ∷ events) more (between, first, rest) heard =
-      (between, first, hears-append between b c events more rest heard)
-
   -- of the pending commands one more is answered as failed
   pub hears-failed : (a b c : K) (waiting : List Waiting) (i : ℕ) (next : Waiting) → i < length waiting
-      → next ≡ get_or waiting i next → HearsAll hears a (failed_of (take i waiting)) b
-      → hears b (Answered next.ticket Failed) c → HearsAll hears a (failed_of (take (i + 1) waiting)) c
+      → next ≡ get_or waiting i next → InTurn hears a (failed_of (take i waiting)) b
+      → hears b (Answered next.ticket Failed) c → InTurn hears a (failed_of (take (i + 1) waiting)) c
   hears-failed a b c waiting i next within is heard last =
       let event = λ (w : Waiting). Answered w.ticket Failed in
-      subst (λ (l : List DeskEvent). HearsAll hears a l c)
+      subst (λ (l : List DeskEvent). InTurn hears a l c)
       (ap (λ (w : Waiting). failed_of (take i waiting) ++ event w ∷ []) is ∙ sym (map_more event waiting i next within))
-      (hears-append a b c (failed_of (take i waiting)) (event next ∷ []) heard (c, last, refl))
+      (and-then hears a b c (failed_of (take i waiting)) (event next ∷ []) heard (c, last, refl))
 
 -- ---- turns
 

@@ -5,7 +5,8 @@ use Rattle.macs_disk.specs.Disk.{Disk}
 use Rattle.macs_endpoint.specs.Value.{EndpointValue}
 use Rattle.macs_endpoint.specs.declared.fault.RefillFault.{RefillFault}
 use Rattle.macs_endpoint.specs.declared.progress.Step.{Step as Progress}
-use Rattle.macs_edge.specs.Attending.{Attends, HearsAll, IsAttended, Obeys, TakesAllAttended, answers_of, failed_of}
+use Rattle.macs_edge.specs.Attending.{Attends, IsAttended, Obeys, TakesAllAttended, answers_of, failed_of}
+use Rattle.macs_commands.specs.InTurn.{InTurn}
 use Rattle.macs_edge.specs.Attending.{rests_after}
 use Rattle.macs_edge.specs.declared.attending.DeskEvent.{DeskEvent}
 use Rattle.macs_edge.specs.declared.attending.DeskEvent.TheVariants.{Answered, Rested, Took, Wanted}
@@ -40,7 +41,7 @@ continues-unattended (Answered ticket ended) old new passes = tt
 continues-unattended Rested old new passes = tt
 
 all-unattended : {K : Type 0} (sleeps : K → Option ℕ) (old new : K) (events : List DeskEvent)
-    → HearsAll (λ (a : K) (event : DeskEvent) (b : K). PassesUnattended event (sleeps a) (sleeps b)) old events new
+    → InTurn (λ (a : K) (event : DeskEvent) (b : K). PassesUnattended event (sleeps a) (sleeps b)) old events new
     → Continues events
 all-unattended sleeps old new [] same = tt
 all-unattended sleeps old new (event ∷ events) (between, first, rest) = (
@@ -107,7 +108,7 @@ module _ {D : Type 0} (disk_of : D → Disk) where
       (events : List DeskEvent) (result : Result RelaySummary RefillFault)
       (endpoint : EndpointValue D) (controlled common : WireState)
       → IsAttended disk_of turns old events result endpoint controlled common
-      → HearsAll (λ (a : K) (event : DeskEvent) (b : K). PassesUnattended event (sleeps a) (sleeps b)) before events
+      → InTurn (λ (a : K) (event : DeskEvent) (b : K). PassesUnattended event (sleeps a) (sleeps b)) before events
       after
       → IsRelayed disk_of turns old result endpoint controlled common
   unattended-relayed sleeps before after turns old events result endpoint controlled common

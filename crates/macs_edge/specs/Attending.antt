@@ -22,12 +22,6 @@ use Rattle.macs_edge.specs.declared.attending.Order.{Order}
 use Rattle.macs_edge.specs.declared.attending.Order.TheVariants.{Go, Submit, End}
 use Rattle.macs_edge.specs.declared.relaying.RelaySummary.{RelaySummary}
 
--- a desk is given these events in order, each by a call of its own: `hears` is what one makes of it
-abbrev pub HearsAll : {K : Type 0} → (K → DeskEvent → K → Type 0) → K → List DeskEvent → K → Type 0
-HearsAll hears old [] new = new ≡ old
-HearsAll {K} hears old (event ∷ events) new = (between : K) × hears old event between
-    × HearsAll hears between events new
-
 -- ---- before a turn
 
 -- a turn follows, unless the desk orders the end

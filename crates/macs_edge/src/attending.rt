@@ -2,7 +2,8 @@
 
 ghost use Rattle.std.specs.Prelude.{◌≡◌, List};
 ghost use Rattle.macs_endpoint.specs.Lives.{LivesOn};
-ghost use Rattle.macs_edge.specs.Attending.{AttendsTurns, HearsAll, IsAttended, Obeys};
+ghost use Rattle.macs_edge.specs.Attending.{AttendsTurns, IsAttended, Obeys};
+ghost use Rattle.macs_commands.specs.InTurn.{InTurn};
 ghost use Rattle.macs_edge.specs.Attending.{answers_of, failed_of, rests_after};
 ghost use Rattle.macs_edge.specs.Relaying.{empty_lane, lane_value, relay_of};
 ghost use Rattle.macs_edge.specs.declared.attending.DeskEvent.{DeskEvent};
@@ -88,7 +89,7 @@ fn obey<D: SectorDisk, P: Wire, C: Wire, K: Desk<D, P, C>>(
 ) -> bool
     ensures { (events : List DeskEvent)
         × Obeys D.disk was_quiet endpoint.old events result endpoint.new
-        × HearsAll K.hears desk.old events desk.new }
+        × InTurn K.hears desk.old events desk.new }
 {
     match desk.next(endpoint, controlled, common, was_quiet) {
         Order::Go => true,
@@ -103,7 +104,7 @@ fn obey<D: SectorDisk, P: Wire, C: Wire, K: Desk<D, P, C>>(
 
 /// Reports the result of the command that a step completes.
 fn tell<D: SectorDisk, P: Wire, C: Wire, K: Desk<D, P, C>>(desk: &mut K, step: Step)
-    ensures { HearsAll K.hears desk.old (answers_of step) desk.new }
+    ensures { InTurn K.hears desk.old (answers_of step) desk.new }
 {
     match step {
         Step::Done(ticket, result) => desk.answered(ticket, CommandEnd::Done(result)),
@@ -113,7 +114,7 @@ fn tell<D: SectorDisk, P: Wire, C: Wire, K: Desk<D, P, C>>(desk: &mut K, step: S
 
 /// Lets a desk rest if a turn was quiet.
 fn rest<D: SectorDisk, P: Wire, C: Wire, K: Desk<D, P, C>>(desk: &mut K, is_quiet: bool)
-    ensures { HearsAll K.hears desk.old (rests_after is_quiet) desk.new }
+    ensures { InTurn K.hears desk.old (rests_after is_quiet) desk.new }
 {
     if is_quiet {
         desk.rest();
@@ -122,7 +123,7 @@ fn rest<D: SectorDisk, P: Wire, C: Wire, K: Desk<D, P, C>>(desk: &mut K, is_quie
 
 /// Answers the pending commands as failed, in order.
 fn close<D: SectorDisk, P: Wire, C: Wire, K: Desk<D, P, C>>(endpoint: &Endpoint<D>, desk: &mut K)
-    ensures { HearsAll K.hears desk.old (failed_of endpoint.now.waiting) desk.new }
+    ensures { InTurn K.hears desk.old (failed_of endpoint.now.waiting) desk.new }
 {
     for waiting in endpoint.waiting() {
         desk.answered(waiting.ticket, CommandEnd::Failed);
@@ -144,7 +145,7 @@ fn attend_turns<D: SectorDisk, P: Wire, C: Wire, K: Desk<D, P, C>>(
         (lane_value to_common.old) (lane_value to_controlled.old)) events result
         (relay_of endpoint.new (P.state controlled.new) (C.state common.new)
         (lane_value to_common.new) (lane_value to_controlled.new))
-        × HearsAll K.hears desk.old events desk.new }
+        × InTurn K.hears desk.old events desk.new }
 {
     let mut out = FrameBuf::new();
     let mut is_quiet = false;
@@ -190,7 +191,7 @@ pub fn attend<D: SectorDisk, P: Wire, C: Wire, K: Desk<D, P, C>>(
     ensures attended { (events : List DeskEvent) × IsAttended D.disk turns
         (relay_of endpoint.old (P.state controlled.old) (C.state common.old) empty_lane empty_lane)
         events result endpoint.new (P.state controlled.new) (C.state common.new)
-        × HearsAll K.hears desk.old events desk.new }
+        × InTurn K.hears desk.old events desk.new }
     ensures lives { LivesOn D.disk endpoint.old endpoint.new }
 {
     let mut to_common = Lane::new();

@@ -64,7 +64,7 @@ fn serve<D: SectorDisk, C: Clients, M: Metrics, S: Overruns + KeyNotes + Time, W
         (relay_of endpoint.old new_wire new_wire empty_lane empty_lane) events answer endpoint.new
         controlled common
         × (endpoint.old.waiting ≡ [] → entries_of desk.old.unanswered ≡ []
-        → ServesClients C.talk desk.old events desk.new)
+        → ServesClients C.does desk.old events desk.new)
         × Reports W.contents W.failed answer out.old result out.new }
 {
     clients_are_served::<D, C, M, S>();

@@ -2,7 +2,8 @@
 
 ghost use Rattle.std.specs.Prelude.{◌≡◌, List, Result, true, IfErr, IfOk};
 ghost use Rattle.std.specs.Io.KnownBytes.{Appends};
-ghost use Rattle.macs_edge.specs.Attending.{HearsAll, IsAttended};
+ghost use Rattle.macs_edge.specs.Attending.{IsAttended};
+ghost use Rattle.macs_commands.specs.InTurn.{InTurn};
 ghost use Rattle.macs_edge.specs.Relaying.{empty_lane, relay_of};
 ghost use Rattle.macs_edge.specs.declared.attending.DeskEvent.{DeskEvent};
 ghost use Rattle.macs_edge.specs.declared.relaying.RelaySummary.{RelaySummary};
@@ -55,7 +56,7 @@ pub fn relay_frames<D: SectorDisk, P: Wire, C: Wire, K: Desk<D, P, C>, W: Stream
         × IsAttended D.disk turns
         (relay_of endpoint.old (P.state controlled.old) (C.state common.old) empty_lane empty_lane)
         events answer endpoint.new (P.state controlled.new) (C.state common.new)
-        × HearsAll K.hears desk.old events desk.new
+        × InTurn K.hears desk.old events desk.new
         × Reports W.contents W.failed answer out.old result out.new }
 {
     match attend(endpoint, controlled, common, desk, turns) {

@@ -82,7 +82,8 @@ pub fn bind_wires<N: Net>(
 
 impl Wires {
     ghost use Rattle.std.specs.Prelude.{◌≡◌, IfSome, List, Result};
-    ghost use Rattle.macs_edge.specs.Attending.{HearsAll, IsAttended};
+    ghost use Rattle.macs_edge.specs.Attending.{IsAttended};
+ghost use Rattle.macs_commands.specs.InTurn.{InTurn};
     ghost use Rattle.macs_edge.specs.Relaying.{empty_lane, relay_of};
     ghost use Rattle.macs_edge.specs.Wires.{WireState};
     ghost use Rattle.macs_edge.specs.declared.attending.DeskEvent.{DeskEvent};
@@ -118,7 +119,7 @@ impl Wires {
             × (controlled common : WireState) × IsAttended D.disk (turns_of pace)
             (relay_of endpoint.old new_wire new_wire empty_lane empty_lane) events answer
             endpoint.new controlled common
-            × HearsAll K.hears desk.old events desk.new
+            × InTurn K.hears desk.old events desk.new
             × Reports W.contents W.failed answer out.old result out.new }
     {
         let Wires { controlled, common } = self;

@@ -27,32 +27,31 @@ impl Drop for Heard {
 
 /// The clients of a desk. No call except `sleep` waits, no matter what a client does.
 pub trait Clients {
-    ghost use Rattle.std.specs.Prelude.{◌≡◌, List, [], ◌∷◌, Option, None};
-    ghost use Rattle.macs_commands.specs.Talks.{Heard as WasHeard, Looked, Said, Slept};
-    ghost use Rattle.macs_commands.specs.Talks.{Talk, with_talk};
+    ghost use Rattle.std.specs.Prelude.{⊤};
+    ghost use Rattle.macs_commands.specs.Talks.{Heard as WasHeard, Looked, Said, Slept, Talk};
 
-    /// What passed between them and a desk, earliest first, if known.
-    ghost talk: { Self → Option (List Talk) } = { λ _. None };
+    /// What each exchange with a desk makes of them.
+    ghost does: { Self → Talk → Self → Type 0 } = { λ _ _ _. ⊤ };
 
     /// Takes the next whole line of a client, if there is one. Lines of one client come in the
     /// order in which it sent them.
     fn hear(&mut self) -> Option<Heard>
-        ensures { talk self.new ≡ with_talk (talk self.old) (WasHeard result ∷ []) };
+        ensures { does self.old (WasHeard result) self.new };
 
     /// Sends a text to a client. Each line that was heard is answered once: by texts, the last of
     /// which ends in the line `end STATUS`. Nothing is sent to a client that went away; one that
     /// does not take all of a text at once is dropped, and nothing more is sent to it. One that
     /// sends no more is dropped after its last answer.
     fn say(&mut self, client: Client, text: &[u8])
-        ensures { talk self.new ≡ with_talk (talk self.old) (Said client text.now ∷ []) };
+        ensures { does self.old (Said client text.now) self.new };
 
     /// Sleeps until a datagram arrives or a client sends something, for a bounded time. It is
     /// called only after a quiet turn.
     fn sleep(&mut self)
-        ensures { talk self.new ≡ with_talk (talk self.old) (Slept ∷ []) };
+        ensures { does self.old Slept self.new };
 
     /// Whether the process was asked to end from outside, for example by a pending SIGTERM. It may
     /// be called before each turn, and checks at most about once a second.
     fn is_ended(&mut self) -> bool
-        ensures { talk self.new ≡ with_talk (talk self.old) (Looked result ∷ []) };
+        ensures { does self.old (Looked result) self.new };
 }

@@ -2,19 +2,19 @@
 
 /// A text that is rewritten from time to time, whole or not at all. No call waits.
 pub trait Metrics {
-    ghost use Rattle.std.specs.Prelude.{◌≡◌, List, [], ◌∷◌, Option, None};
-    ghost use Rattle.macs_commands.specs.Talks.{Asked, Note, Put, with_notes};
+    ghost use Rattle.std.specs.Prelude.{⊤};
+    ghost use Rattle.macs_commands.specs.Talks.{Asked, Note, Put};
 
-    /// The questions asked and the texts written, earliest first, if known.
-    ghost notes: { Self → Option (List Note) } = { λ _. None };
+    /// What each question and each text makes of it.
+    ghost does: { Self → Note → Self → Type 0 } = { λ _ _ _. ⊤ };
 
     /// Whether the text should be written now: at most once a second.
     fn is_due(&mut self) -> bool
-        ensures { notes self.new ≡ with_notes (notes self.old) (Asked result ∷ []) };
+        ensures { does self.old (Asked result) self.new };
 
     /// Writes the text in place of the previous one. If that fails, the previous one stays.
     fn put(&mut self, text: &[u8])
-        ensures { notes self.new ≡ with_notes (notes self.old) (Put text.now ∷ []) };
+        ensures { does self.old (Put text.now) self.new };
 }
 
 /// No file of counters: no text is ever due.

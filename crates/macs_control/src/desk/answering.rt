@@ -4,7 +4,8 @@ ghost use Rattle.std.specs.Prelude.{◌≡◌, ℕ, List, Result, IfOk, string_b
 ghost use Rattle.std.specs.Str.{IsUtf8};
 ghost use Rattle.macs_edge.specs.declared.attending.Order.TheVariants.{Go};
 ghost use Rattle.macs_commands.specs.Requests.{IsAsked, request_line};
-ghost use Rattle.macs_commands.specs.Talks.{Talk, with_talk};
+ghost use Rattle.macs_commands.specs.InTurn.{InTurn};
+ghost use Rattle.macs_commands.specs.Talks.{Talk};
 ghost use Rattle.macs_commands.specs.declared.requests.request.Request.{Request};
 ghost use Rattle.macs_control.specs.Listening.{Answers, HandsIn, IsKnown, IsRead, Reads, Tells};
 ghost use Rattle.macs_control.specs.Listening.{counted_of, reports_of};
@@ -40,7 +41,7 @@ fn request_of(alloc: Global, line: &[u8]) -> Result<Option<Request>, AllocError>
 fn say_report<C: Clients>(clients: &mut C, client: Client, report: Result<String, AllocError>)
     ensures { (text : List ℕ) → IfOk report (λ told. string_bytes told ≡ text)
         → (talk : List Talk) × Tells client text talk
-        × (C.talk clients.new ≡ with_talk (C.talk clients.old) talk) }
+        × InTurn C.does clients.old talk clients.new }
 {
     match report {
         Ok(text) => {
@@ -55,7 +56,7 @@ fn say_report<C: Clients>(clients: &mut C, client: Client, report: Result<String
 fn tell<C: Clients>(clients: &mut C, client: Client, report: Result<String, AllocError>) -> Order
     ensures { (text : List ℕ) → IfOk report (λ told. string_bytes told ≡ text)
         → (talk : List Talk) × (Tells client text talk × (result ≡ Go))
-        × (C.talk clients.new ≡ with_talk (C.talk clients.old) talk) }
+        × InTurn C.does clients.old talk clients.new }
 {
     say_report(clients, client, report);
     Order::Go
@@ -91,7 +92,7 @@ fn hand_in<K: KeyNotes, C: Clients>(
 ) -> Order
     ensures { (noted : Result (Unit {0}) NoteFault) × IsKnown (K.answers notes.now command) noted
         × (talk : List Talk) × HandsIn client command noted talk result
-        × (C.talk clients.new ≡ with_talk (C.talk clients.old) talk) }
+        × InTurn C.does clients.old talk clients.new }
 {
     match notes.note(&command) {
         Ok(()) => Order::Submit(command),
@@ -118,7 +119,7 @@ fn answer<D: SectorDisk, S: Overruns + KeyNotes, C: Clients>(
         × Answers (reports_of program.now (S.known system.now) (S.answers system.now) endpoint.now
         controlled.now common.now)
         client request talk result
-        × (C.talk clients.new ≡ with_talk (C.talk clients.old) talk) }
+        × InTurn C.does clients.old talk clients.new }
 {
     match request {
         Request::Show => tell(clients, client, show_lines(alloc, endpoint)),
@@ -155,7 +156,7 @@ pub fn read<D: SectorDisk, S: Overruns + KeyNotes, C: Clients>(
         × Reads (reports_of program.now (S.known system.now) (S.answers system.now) endpoint.now
         controlled.now common.now)
         heard.now talk result
-        × (C.talk clients.new ≡ with_talk (C.talk clients.old) talk) }
+        × InTurn C.does clients.old talk clients.new }
 {
     let client = heard.client;
     match request_of(alloc, heard.line.as_slice()) {

@@ -1,7 +1,8 @@
 //! The desk.
 
 ghost use Rattle.std.specs.Prelude.{◌≡◌, [], List};
-ghost use Rattle.macs_commands.specs.Talks.{Note, Talk, with_notes, with_talk};
+ghost use Rattle.macs_commands.specs.InTurn.{InTurn};
+ghost use Rattle.macs_commands.specs.Talks.{Note, Talk};
 ghost use Rattle.macs_control.specs.LastGood.{NotesGoodIf, good_after, good_frames};
 ghost use Rattle.macs_control.specs.Listening.{LooksIf, MeasuresIf, is_time, measured_of};
 ghost use Rattle.macs_control.specs.Listening.{reports_of};
@@ -107,7 +108,7 @@ impl<
     ghost use Rattle.macs_edge.specs.declared.attending.DeskEvent.TheVariants.{Answered, Rested};
     ghost use Rattle.macs_edge.specs.declared.attending.DeskEvent.TheVariants.{Took, Wanted};
 
-    ghost hears = { λ old event new. SpeaksToClients C.talk old event new };
+    ghost hears = { λ old event new. SpeaksToClients C.does old event new };
 
     fn next(&mut self, endpoint: &Endpoint<D>, controlled: &P, common: &W, was_quiet: bool) -> Order
         ensures talk { (talk : List Talk)
@@ -116,13 +117,13 @@ impl<
             (reports_of self.new.program (S.known self.old.system) (S.answers self.old.system)
             endpoint.now (P.wire_counts controlled.now) (W.wire_counts common.now))
             self.old.asking talk result self.new.asking
-            × (C.talk self.new.clients ≡ with_talk (C.talk self.old.clients) talk) }
+            × InTurn C.does self.old.clients talk self.new.clients }
         ensures notes { (notes : List Note)
             × MeasuresIf (is_time was_quiet self.old.turns_left) (S.known self.old.system)
             (measured_of self.old.program.build endpoint.now (P.wire_counts controlled.now)
             (W.wire_counts common.now))
             notes
-            × (M.notes self.new.metrics ≡ with_notes (M.notes self.old.metrics) notes) }
+            × InTurn M.does self.old.metrics notes self.new.metrics }
         ensures last_good { NotesGoodIf (is_time was_quiet self.old.turns_left)
             (S.time self.old.system) self.old.good
             (good_frames (rxsc.counters_of endpoint.now.rx))
@@ -135,7 +136,7 @@ impl<
         ensures unanswered { entries_of self.new.unanswered ≡ entries_of self.old.unanswered }
         ensures turns { self.new.turns_left
             ≡ turns_left (is_time was_quiet self.old.turns_left) self.old.turns_left result }
-        ensures hears { SpeaksToClients C.talk self.old (Wanted was_quiet result) self.new }
+        ensures hears { SpeaksToClients C.does self.old (Wanted was_quiet result) self.new }
     {
         if !is_time(was_quiet, self.turns_left) {
             self.turns_left = self.turns_left.saturating_sub(1);
@@ -172,8 +173,7 @@ impl<
     }
 
     fn took(&mut self, answer: Result<Ticket, SubmitFault>)
-        ensures talk { C.talk self.new.clients
-            ≡ with_talk (C.talk self.old.clients) (said_of_taking self.old.asking answer) }
+        ensures talk { InTurn C.does self.old.clients (said_of_taking self.old.asking answer) self.new.clients }
         ensures program { self.new.program ≡ self.old.program }
         ensures system { self.new.system ≡ self.old.system }
         ensures metrics { self.new.metrics ≡ self.old.metrics }
@@ -182,7 +182,7 @@ impl<
         ensures asking { self.new.asking ≡ self.old.asking }
         ensures good { self.new.good ≡ self.old.good }
         ensures turns { self.new.turns_left ≡ self.old.turns_left }
-        ensures hears { SpeaksToClients C.talk self.old (Took answer) self.new }
+        ensures hears { SpeaksToClients C.does self.old (Took answer) self.new }
     {
         match answer {
             Ok(ticket) => self.unanswered.join(Submitted {
@@ -194,9 +194,7 @@ impl<
     }
 
     fn answered(&mut self, ticket: Ticket, end: CommandEnd)
-        ensures talk { C.talk self.new.clients
-            ≡ with_talk (C.talk self.old.clients)
-            (said_of_ending (entries_of self.old.unanswered) ticket end) }
+        ensures talk { InTurn C.does self.old.clients (said_of_ending (entries_of self.old.unanswered) ticket end) self.new.clients }
         ensures program { self.new.program ≡ self.old.program }
         ensures system { self.new.system ≡ self.old.system }
         ensures metrics { self.new.metrics ≡ self.old.metrics }
@@ -205,7 +203,7 @@ impl<
         ensures asking { self.new.asking ≡ self.old.asking }
         ensures good { self.new.good ≡ self.old.good }
         ensures turns { self.new.turns_left ≡ self.old.turns_left }
-        ensures hears { SpeaksToClients C.talk self.old (Answered ticket end) self.new }
+        ensures hears { SpeaksToClients C.does self.old (Answered ticket end) self.new }
     {
         match self.unanswered.leave(ticket.get()) {
             Some(client) => self.clients.say(client, ended(end).as_slice()),
@@ -216,6 +214,6 @@ impl<
     /// It rests in `next`, before it looks after its clients.
     fn rest(&mut self)
         ensures same { self.new ≡ self.old }
-        ensures hears { SpeaksToClients C.talk self.old Rested self.new }
+        ensures hears { SpeaksToClients C.does self.old Rested self.new }
     {}
 }

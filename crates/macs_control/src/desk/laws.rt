@@ -1,7 +1,8 @@
 //! Laws of the definitions, for the layers above.
 
 ghost use Rattle.std.specs.Prelude.{◌≡◌, ℕ, [], List, Result};
-ghost use Rattle.macs_edge.specs.Attending.{Attends, HearsAll};
+ghost use Rattle.macs_edge.specs.Attending.{Attends};
+ghost use Rattle.macs_commands.specs.InTurn.{InTurn};
 ghost use Rattle.macs_edge.specs.Relaying.{Relay, empty_lane};
 ghost use Rattle.macs_edge.specs.declared.attending.DeskEvent.{DeskEvent};
 ghost use Rattle.macs_edge.specs.declared.relaying.RelaySummary.{RelaySummary};
@@ -36,6 +37,6 @@ pub fn clients_are_served<D: SectorDisk, C: Clients, M, S>()
         (before after : ControlDesk C M S) (result : Result RelaySummary RefillFault)
         → old.to_common ≡ empty_lane → old.to_controlled ≡ empty_lane → old.endpoint.waiting ≡ []
         → entries_of before.unanswered ≡ [] → Attends D.disk turns old events result new
-        → HearsAll (SpeaksToClients C.talk) before events after
-        → ServesClients C.talk before events after }
+        → InTurn (SpeaksToClients C.does) before events after
+        → ServesClients C.does before events after }
 {}

@@ -1,7 +1,8 @@
 //! When a desk listens to its clients.
 
 ghost use Rattle.std.specs.Prelude.{◌≡◌, List};
-ghost use Rattle.macs_commands.specs.Talks.{Talk, with_talk};
+ghost use Rattle.macs_commands.specs.InTurn.{InTurn};
+ghost use Rattle.macs_commands.specs.Talks.{Talk};
 ghost use Rattle.macs_control.specs.Listening.{Listens, Looks, is_time, reports_of, sleep_after};
 ghost use Rattle.macs_control.specs.Listening.{turns_between};
 
@@ -38,7 +39,7 @@ pub fn turns_between(order: &Order) -> u8
 
 /// Sleeps after a quiet turn.
 pub fn rest<C: Clients>(was_quiet: bool, clients: &mut C)
-    ensures { C.talk clients.new ≡ with_talk (C.talk clients.old) (sleep_after was_quiet) }
+    ensures { InTurn C.does clients.old (sleep_after was_quiet) clients.new }
 {
     if was_quiet {
         clients.sleep();
@@ -61,7 +62,7 @@ fn listen<D: SectorDisk, S: Overruns + KeyNotes, C: Clients>(
         × Listens (reports_of program.now (S.known system.now) (S.answers system.now) endpoint.now
         controlled.now common.now)
         asking.old talk result asking.new
-        × (C.talk clients.new ≡ with_talk (C.talk clients.old) talk) }
+        × InTurn C.does clients.old talk clients.new }
 {
     match clients.hear() {
         Some(heard) => {
@@ -92,7 +93,7 @@ pub fn look<D: SectorDisk, S: Overruns + KeyNotes, C: Clients>(
         (reports_of program.now (S.known system.now) (S.answers system.now) endpoint.now
         controlled.now common.now)
         asking.old talk result asking.new
-        × (C.talk clients.new ≡ with_talk (C.talk clients.old) talk) }
+        × InTurn C.does clients.old talk clients.new }
 {
     if clients.is_ended() {
         return Order::End;

@@ -1,7 +1,8 @@
 //! The counters for a metrics collector.
 
 ghost use Rattle.std.specs.Prelude.{◌≡◌, List, IfOk, string_bytes};
-ghost use Rattle.macs_commands.specs.Talks.{Note, with_notes};
+ghost use Rattle.macs_commands.specs.InTurn.{InTurn};
+ghost use Rattle.macs_commands.specs.Talks.{Note};
 ghost use Rattle.macs_control.specs.Listening.{IsKnown, Measures, measured_of};
 ghost use Rattle.macs_control.specs.declared.desk.overruns.Dropped.{Dropped};
 
@@ -48,7 +49,7 @@ pub fn measure<D: SectorDisk, O: Overruns, M: Metrics>(
     ensures { (notes : List Note)
         × Measures (O.known overruns.now)
         (measured_of build.now endpoint.now controlled.now common.now) notes
-        × (M.notes metrics.new ≡ with_notes (M.notes metrics.old) notes) }
+        × InTurn M.does metrics.old notes metrics.new }
 {
     if !metrics.is_due() {
         return;

@@ -2,7 +2,8 @@ use Rattle.std.proofs.Common.{◌++◌, Err, Ok, refl}
 use Rattle.std.proofs.lemmas.Result.{err_from_is_err_and}
 use Rattle.macs_edge.specs.Attending.{IsAttended, failed_of}
 use Rattle.macs_edge.specs.Relaying.{empty_lane, lane_value, relay_of}
-use Rattle.macs_edge.proofs.Attended.{attends-begun, hears-append}
+use Rattle.macs_commands.proofs.InTurns.{and-then}
+use Rattle.macs_edge.proofs.Attended.{attends-begun}
 use Rattle.macs_edge.proofs.Lived.{lives-attended}
 use Rattle.macs_edge.proofs.attending.attend.Goals as goal
 
@@ -38,7 +39,7 @@ returns-in_err-ended g c =
       attended = (
         events,
         attended,
-        hears-append g.K.Desk.hears c.args.desk.now after.desk c.close.new.desk during
+        and-then g.K.Desk.hears c.args.desk.now after.desk c.close.new.desk during
             (failed_of after.endpoint.waiting) c.in_err-ended.ensures.2 c.close.ensures,
       );
       lives = lives-attended g.D.SectorDisk.disk c.args.turns start events c.from_residual.result after.endpoint
@@ -72,7 +73,7 @@ returns g c =
       attended = (
         events,
         attended,
-        hears-append g.K.Desk.hears c.args.desk.now after.desk c.close.new.desk during
+        and-then g.K.Desk.hears c.args.desk.now after.desk c.close.new.desk during
             (failed_of after.endpoint.waiting) c.in_ok-ended.ensures.2 c.close.ensures,
       );
       lives = lives-attended g.D.SectorDisk.disk c.args.turns start events (Ok c.summed.result) after.endpoint

@@ -2,7 +2,8 @@ use Rattle.std.proofs.Common.{[], ◌++◌, arith, inr, refl, ap, sym, subst}
 use Rattle.std.proofs.lemmas.Result.{err_from_is_err_and}
 use Rattle.macs_edge.specs.Attending.{TakesAllAttended, answers_of, rests_after}
 use Rattle.macs_edge.specs.Relaying.{lane_value, relay_of}
-use Rattle.macs_edge.proofs.Attended.{attended-more, hears-append, obeys-end}
+use Rattle.macs_commands.proofs.InTurns.{and-then}
+use Rattle.macs_edge.proofs.Attended.{attended-more, obeys-end}
 use Rattle.macs_edge.proofs.attending.attend_turns.Goals as goal
 
 pub loop-init : goal.loop-init
@@ -27,7 +28,7 @@ returns-then-not-obey g c =
             (sym ends.1) c.loop.invariant.1.1,
         inr (c.loop-test.true, ap (λ (l : _). earlier ++ l) ends.0),
       ),
-      hears-append g.K.Desk.hears c.args.desk.now c.loop.desk c.obey.new.desk earlier last c.loop.invariant.1.2
+      and-then g.K.Desk.hears c.args.desk.now c.loop.desk c.obey.new.desk earlier last c.loop.invariant.1.2
           c.if-not-obey.ensures.2,
     )
 
@@ -53,7 +54,7 @@ returns-in_err-step g c =
         c.in_err-step.ensures,
         refl,
       ),
-      hears-append g.K.Desk.hears c.args.desk.now c.loop.desk c.obey.new.desk earlier last c.loop.invariant.1.2
+      and-then g.K.Desk.hears c.args.desk.now c.loop.desk c.obey.new.desk earlier last c.loop.invariant.1.2
           c.if-not-obey.ensures.2,
     )
 
@@ -66,7 +67,7 @@ loop-preserved g c =
     let earlier = c.loop.invariant.1.0 in
     let before = c.if-not-obey.ensures.0 in
     let told = answers_of c.in_ok-step.step in
-    let heard = hears-append g.K.Desk.hears in (
+    let heard = and-then g.K.Desk.hears in (
       omega (arith, c.loop-test.true),
       (
         earlier ++ (before ++ told) ++ rests_after c.was_quiet-is_quiet.result,

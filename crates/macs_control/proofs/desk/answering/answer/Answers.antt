@@ -30,8 +30,7 @@ pub returns-in-Stop : goal.returns-in-Stop
 returns-in-Stop g c = rw c.in-Stop.is (
   Said c.args.client (end_text 0) ∷ [],
   (refl, refl),
-  says (g.C.Clients.talk c.args.clients.now) (g.C.Clients.talk c.say.new.self) c.args.client
-      c.as_bytes.result.now (end_text 0) (c.as_bytes.ensures.value ∙ end-0) c.say.ensures,
+  says g.C.Clients.does c.args.clients.now c.say.new.self c.args.client c.as_bytes.result.now (end_text 0) (c.as_bytes.ensures.value ∙ end-0) c.say.ensures,
 )
 
 pub returns-in-Apply : goal.returns-in-Apply

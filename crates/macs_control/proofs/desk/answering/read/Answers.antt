@@ -11,7 +11,7 @@ returns-in-Ok-None g c =
     let is_none = rw c.in-Ok-None.field-0-is at c.in-Ok-None.ensures in (
       Said c.args.heard.now.client (end_text 2) ∷ [],
       inr (inl (subst (λ (l : List ℕ). IsNoRequest l) c.as_slice.ensures.value is_none, refl, refl)),
-      says (g.C.Clients.talk c.args.clients.now) (g.C.Clients.talk c.say.new.self) c.args.heard.now.client
+      says g.C.Clients.does c.args.clients.now c.say.new.self c.args.heard.now.client
           c.as_bytes.result.now (end_text 2) (c.as_bytes.ensures.value ∙ end-2) c.say.ensures,
     )
 
@@ -19,6 +19,6 @@ pub returns-in-Err : goal.returns-in-Err
 returns-in-Err g c = (
   Said c.args.heard.now.client (end_text 5) ∷ [],
   inr (inr (refl, refl)),
-  says (g.C.Clients.talk c.args.clients.now) (g.C.Clients.talk c.say-in-Err.new.self) c.args.heard.now.client
+  says g.C.Clients.does c.args.clients.now c.say-in-Err.new.self c.args.heard.now.client
       c.as_bytes-in-Err.result.now (end_text 5) (c.as_bytes-in-Err.ensures.value ∙ end-5) c.say-in-Err.ensures,
 )

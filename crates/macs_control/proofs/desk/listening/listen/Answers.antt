@@ -1,5 +1,4 @@
-use Rattle.std.proofs.Common.{Some, [], ◌∷◌, inr, refl}
-use Rattle.macs_edge.proofs.Flowing.{gained-more}
+use Rattle.std.proofs.Common.{Some, None, [], ◌∷◌, inl, inr, refl}
 use Rattle.macs_commands.specs.Talks.{Heard}
 use Rattle.macs_control.proofs.desk.listening.listen.Goals as goal
 
@@ -9,6 +8,8 @@ returns-in-Some g c =
     let read = c.read.ensures in (
       Heard (Some heard) ∷ read.0,
       inr (heard, read.0, refl, refl, read.1),
-      gained-more (g.C.Clients.talk c.args.clients.now) (g.C.Clients.talk c.hear.new.self)
-          (g.C.Clients.talk c.read.new.clients) (Heard (Some heard) ∷ []) read.0 c.in-Some.ensures read.2,
+      (c.hear.new.self, c.in-Some.ensures, read.2),
     )
+
+pub returns-in-None : goal.returns-in-None
+returns-in-None g c = (Heard None ∷ [], inl (refl, refl, refl), (c.hear.new.self, c.in-None.ensures, refl))
