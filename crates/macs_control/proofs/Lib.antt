@@ -1,8 +1,11 @@
 pub mod Asked
 pub mod Called
+pub mod Found
+pub mod HearingTurns
+pub mod Greeted
 pub mod Placed
 pub mod Marks
-mod StandingWords
+pub mod StandingWords
 pub mod EndTexts
 pub mod Talking
 pub mod Looking

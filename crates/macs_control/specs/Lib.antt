@@ -2,6 +2,9 @@ pub mod Links
 pub mod Seats
 pub mod Standings
 pub mod Places
+pub mod Hearings
+pub mod Newcomers
+pub mod ControlSockets
 pub mod Watching
 pub mod Binding
 pub mod Notices

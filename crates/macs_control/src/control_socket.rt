@@ -1,5 +1,10 @@
 //! The control socket of a relay, and everything that an attended relay sleeps on.
 
+ghost use Rattle.std.specs.Prelude.{◌≡◌, IfOk, is_some, slice_get};
+ghost use Rattle.macs_control.specs.ControlSockets.{HearsAll, socket_of};
+ghost use Rattle.macs_control.specs.Newcomers.{Greets, GreetsOne};
+ghost use Rattle.macs_control.specs.Places.{places_of};
+
 use crate::binding::{SystemSockets, bind};
 use crate::seats::{MAX_CLIENTS, Seats};
 use crate::second::EachSecond;
@@ -53,7 +58,9 @@ pub struct ControlSocket<'a, T> {
 }
 
 /// Accepts a client that connected, and returns whether there was one.
-fn greet_one(listener: &UnixListener, seats: &mut Seats<UnixStream>) -> bool {
+fn greet_one(listener: &UnixListener, seats: &mut Seats<UnixStream>) -> bool
+    ensures { GreetsOne seats.old result seats.new }
+{
     let Ok((stream, _)) = listener.accept() else {
         return false;
     };
@@ -64,7 +71,9 @@ fn greet_one(listener: &UnixListener, seats: &mut Seats<UnixStream>) -> bool {
 }
 
 /// Accepts clients that connected, as long as a place is free.
-fn greet(listener: &UnixListener, seats: &mut Seats<UnixStream>) {
+fn greet(listener: &UnixListener, seats: &mut Seats<UnixStream>)
+    ensures { Greets seats.old seats.new }
+{
     for _place in seats.len()..MAX_CLIENTS {
         if !greet_one(listener, seats) {
             return;
@@ -74,7 +83,9 @@ fn greet(listener: &UnixListener, seats: &mut Seats<UnixStream>) {
 
 /// Hears the clients. If none of them sends a line, and one of them is idle, the next client that
 /// connected gets its place.
-fn hear(listener: &UnixListener, seats: &mut Seats<UnixStream>) -> Option<Heard> {
+fn hear(listener: &UnixListener, seats: &mut Seats<UnixStream>) -> Option<Heard>
+    ensures { HearsAll seats.old result seats.new }
+{
     greet(listener, seats);
     let heard = seats.hear();
     if heard.is_none() && seats.len() >= MAX_CLIENTS && seats.has_room() {
@@ -84,7 +95,9 @@ fn hear(listener: &UnixListener, seats: &mut Seats<UnixStream>) -> Option<Heard>
 }
 
 /// The socket of the client at a place, or none: nothing more arrives from one that sends no more.
-fn socket_at(seats: &Seats<UnixStream>, at: usize) -> RawFd {
+fn socket_at(seats: &Seats<UnixStream>, at: usize) -> RawFd
+    ensures { result ≡ socket_of (slice_get (places_of seats.now) at) }
+{
     if at < seats.len() && !seats.has_ended(at) {
         seats.connection(at).as_raw_fd()
     } else {
@@ -96,7 +109,9 @@ fn socket_at(seats: &Seats<UnixStream>, at: usize) -> RawFd {
 fn listener_at<T: Files + Net>(
     rt: &T,
     path: Option<&str>,
-) -> Result<Option<UnixListener>, ControlFault> {
+) -> Result<Option<UnixListener>, ControlFault>
+    ensures { IfOk result (λ listener. is_some listener ≡ is_some path.entry) }
+{
     let Some(path) = path else {
         return Ok(None);
     };
@@ -107,6 +122,10 @@ fn listener_at<T: Files + Net>(
 }
 
 impl<'a, T: Files + Clock> ControlSocket<'a, T> {
+    ghost use Rattle.std.specs.Prelude.{◌≡◌, IfOk, is_some};
+    ghost use Rattle.macs_control.specs.ControlSockets.{IsUnused, greeting_of, watch_of};
+    ghost use Rattle.macs_control.specs.Places.{has_room, places_of, second_of};
+
     /// Binds the control socket at `path`; without a path there are no clients. A sleep on it and
     /// on these wires ends after `limit` milliseconds, at most 1,000. Fails with `Memory`, then
     /// `Bind`.
@@ -119,6 +138,7 @@ impl<'a, T: Files + Clock> ControlSocket<'a, T> {
     ) -> Result<ControlSocket<'a, T>, ControlFault>
     where
         T: Net,
+        ensures { IfOk result (λ socket. IsUnused (is_some path.entry) wires limit socket) }
     {
         let seats = Seats::new(alloc)?;
         let listener = listener_at(rt, path)?;
@@ -136,7 +156,10 @@ impl<'a, T: Files + Clock> ControlSocket<'a, T> {
     }
 
     /// The listening socket, or none: a client that finds no place waits there.
-    fn greeting(&self) -> RawFd {
+    fn greeting(&self) -> RawFd
+        ensures { result ≡ greeting_of self.now.listener
+            (has_room (second_of self.now.seats) (places_of self.now.seats)) }
+    {
         match &self.listener {
             Some(listener) if self.seats.has_room() => listener.as_raw_fd(),
             Some(_) | None => NO_SOCKET,
@@ -144,7 +167,9 @@ impl<'a, T: Files + Clock> ControlSocket<'a, T> {
     }
 
     /// What is watched.
-    fn watch(&self) -> Watch {
+    fn watch(&self) -> Watch
+        ensures { result ≡ watch_of self.now }
+    {
         let seats = &self.seats;
         Watch {
             wires: self.wires,
@@ -158,28 +183,34 @@ impl<'a, T: Files + Clock> ControlSocket<'a, T> {
 }
 
 impl<T: Files + Clock> Clients for ControlSocket<'_, T> {
+    ghost use Rattle.macs_commands.specs.Talks.{Heard as WasHeard, Looked, Said, Slept};
+    ghost use Rattle.macs_control.specs.ControlSockets.{Serves};
+
     /// After a sleep that only a wire ended, no client is looked at.
-    fn hear(&mut self) -> Option<Heard> {
-        if self.is_still {
-            self.is_still = false;
-            return None;
-        }
+    fn hear(&mut self) -> Option<Heard>
+        ensures { Serves self.old (WasHeard result) self.new }
+    {
         let heard = match &self.listener {
-            Some(listener) => hear(listener, &mut self.seats),
-            None => None,
+            Some(listener) if !self.is_still => hear(listener, &mut self.seats),
+            Some(_) | None => None,
         };
+        self.is_still = false;
         self.has_heard = heard.is_some();
         heard
     }
 
-    fn say(&mut self, client: Client, text: &[u8]) {
+    fn say(&mut self, client: Client, text: &[u8])
+        ensures { Serves self.old (Said client text.now) self.new }
+    {
         self.seats.say(client, text);
     }
 
     /// If a line was heard last, more may be waiting, and there is no sleep. While a newcomer would
     /// find no place, it is not known whether one is waiting: clients are looked at after each
     /// sleep.
-    fn sleep(&mut self) {
+    fn sleep(&mut self)
+        ensures { Serves self.old Slept self.new }
+    {
         if self.has_heard {
             return;
         }
@@ -187,7 +218,9 @@ impl<T: Files + Clock> Clients for ControlSocket<'_, T> {
         self.is_still = !is_found && self.seats.has_room();
     }
 
-    fn is_ended(&mut self) -> bool {
+    fn is_ended(&mut self) -> bool
+        ensures { Serves self.old (Looked result) self.new }
+    {
         if !self.second.is_over(self.rt) {
             return false;
         }

@@ -1,7 +1,7 @@
 //! Places, found by their client.
 
-ghost use Rattle.std.specs.Prelude.{◌≡◌, ◌<◌, length, position, IfSome};
-ghost use Rattle.macs_control.specs.Places.{gives_way};
+ghost use Rattle.std.specs.Prelude.{◌≡◌, position};
+ghost use Rattle.macs_control.specs.Places.{gives_way, is_of};
 
 use crate::connection::Connection;
 use crate::place::Place;
@@ -9,7 +9,7 @@ use macs_commands::requests::Client;
 
 /// The place of a client, if it has one.
 pub(crate) fn at_client<S: Connection>(places: &[Place<S>], client: Client) -> Option<usize>
-    ensures { IfSome result (λ at. at < length places.now) }
+    ensures { result ≡ position (is_of client) places.now }
 {
     places.iter().position(|place| place.client() == client)
 }

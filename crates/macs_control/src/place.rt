@@ -16,18 +16,16 @@ pub struct Place<S> {
 }
 
 impl<S: Connection> Place<S> {
-    ghost use Rattle.std.specs.Prelude.{◌≡◌, ◌&&◌, Bool, not};
-    ghost use Rattle.macs_control.specs.Links.{GivesOctets, Hears};
+    ghost use Rattle.std.specs.Prelude.{◌≡◌};
+    ghost use Rattle.macs_control.specs.Hearings.{LooksAt, SaysTo};
+    ghost use Rattle.macs_control.specs.Newcomers.{IsNew};
     ghost use Rattle.macs_control.specs.Places.{seat_in, standing_in};
-    ghost use Rattle.macs_control.specs.Seats.{client_of, connection_of, held_by};
-    ghost use Rattle.macs_control.specs.Standings.{after_hearing, after_saying, is_over};
-    ghost use Rattle.macs_control.specs.Standings.{new_standing};
+    ghost use Rattle.macs_control.specs.Seats.{client_of, connection_of};
 
     /// A client that connected in this second, from which nothing was heard yet.
     pub fn new(client: Client, connection: S, now: u64) -> Place<S>
-        ensures client { client_of (seat_in result) ≡ client }
+        ensures new { IsNew now client.0 result }
         ensures connection { connection_of (seat_in result) ≡ connection }
-        ensures standing { standing_in result ≡ new_standing now }
     {
         Place {
             seat: Seat::new(client, connection),
@@ -58,12 +56,7 @@ impl<S: Connection> Place<S> {
 
     /// Hears the client, in this second.
     pub fn hear(&mut self, now: u64) -> Hearing
-        ensures client { client_of (seat_in self.new) ≡ client_of (seat_in self.old) }
-        ensures hears { Hears (held_by (seat_in self.old))
-            (S.link (connection_of (seat_in self.old))) result
-            (held_by (seat_in self.new)) (S.link (connection_of (seat_in self.new))) }
-        ensures standing { standing_in self.new
-            ≡ after_hearing now result (standing_in self.old) }
+        ensures { LooksAt S.link now self.old result self.new }
     {
         let heard = self.seat.hear();
         self.standing = self.standing.after_hearing(&heard, now);
@@ -74,13 +67,7 @@ impl<S: Connection> Place<S> {
     /// it does if it took all of the text at once, unless it sends no more and no other answer is
     /// due. A text that ends an answer is the answer to a line, or the last part of one.
     pub fn say(&mut self, text: &[u8], now: u64) -> bool
-        ensures client { client_of (seat_in self.new) ≡ client_of (seat_in self.old) }
-        ensures standing { standing_in self.new
-            ≡ after_saying now text.now (standing_in self.old) }
-        ensures given { (whole : Bool)
-            × GivesOctets (S.link (connection_of (seat_in self.old)))
-            (S.link (connection_of (seat_in self.new))) text.now whole
-            × (result ≡ (whole && not (is_over (standing_in self.new)))) }
+        ensures { SaysTo S.link now text.now self.old self.new result }
     {
         let is_whole = self.seat.try_send(text);
         if ends_answer(text) {

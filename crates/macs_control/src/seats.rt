@@ -27,19 +27,21 @@ pub struct Seats<S> {
 }
 
 impl<S: Connection> Seats<S> {
-    ghost use Rattle.std.specs.Prelude.{◌≡◌, ◌<◌, ◌≤◌, ◌+◌, ◌-◌, ◌++◌, ◌∷◌, [], IfOk, IfSome};
-    ghost use Rattle.std.specs.Prelude.{IsTrue, Some, length, min, option_map, slice_get, true};
-    ghost use Rattle.std.specs.Prelude.{false};
-    ghost use Rattle.std.specs.Prelude.{◌^◌};
-    ghost use Rattle.macs_control.specs.Places.{has_room, left, places_of, seat_in, second_of};
-    ghost use Rattle.macs_control.specs.Places.{standing_in};
+    ghost use Rattle.std.specs.List.{remove};
+    ghost use Rattle.std.specs.Prelude.{◌≡◌, ◌<◌, ◌+◌, ◌++◌, ◌∷◌, [], IfOk};
+    ghost use Rattle.std.specs.Prelude.{IsFalse, IsTrue, Some, drop, false, length, option_map};
+    ghost use Rattle.std.specs.Prelude.{slice_get, take, true};
+    ghost use Rattle.macs_control.specs.Hearings.{HearsFirst, HearsOne, Says};
+    ghost use Rattle.macs_control.specs.Newcomers.{TakesIn, is_open};
+    ghost use Rattle.macs_control.specs.Places.{IsEmpty, KeepsCounts, PassesSecond, has_room};
+    ghost use Rattle.macs_control.specs.Places.{left, places_of, seat_in, second_of, standing_in};
     ghost use Rattle.macs_control.specs.Seats.{connection_of, seat_count};
-    ghost use Rattle.macs_control.specs.Standings.{has_ended, new_standing};
+    ghost use Rattle.macs_control.specs.Standings.{has_ended};
     ghost use Rattle.macs_control.specs.declared.place.Place.{Place};
 
     /// No clients yet.
     pub fn new(alloc: Global) -> Result<Seats<S>, AllocError>
-        ensures { IfOk result (λ seats. places_of seats ≡ []) }
+        ensures { IfOk result (λ seats. IsEmpty seats) }
     {
         let places = Vec::with_capacity(alloc, MAX_CLIENTS)?;
         Ok(Seats {
@@ -76,8 +78,7 @@ impl<S: Connection> Seats<S> {
 
     /// Counts a second that ended.
     pub fn pass_second(&mut self)
-        ensures second { second_of self.new ≡ min (second_of self.old + 1) (2 ^ 64 - 1) }
-        ensures places { places_of self.new ≡ places_of self.old }
+        ensures { PassesSecond self.old self.new }
     {
         self.second = self.second.saturating_add(1);
     }
@@ -93,9 +94,10 @@ impl<S: Connection> Seats<S> {
     /// loses its own.
     fn make_room(&mut self) -> bool
         ensures room { result ≡ has_room (second_of self.old) (places_of self.old) }
+        ensures full { IsFalse result → self.new ≡ self.old }
         ensures free { IsTrue result → length (places_of self.new) < 4 }
         ensures left { places_of self.new ≡ left (second_of self.old) (places_of self.old) }
-        ensures second { second_of self.new ≡ second_of self.old }
+        ensures counts { KeepsCounts self.old self.new }
     {
         if self.places.len() < MAX_CLIENTS {
             return true;
@@ -109,42 +111,48 @@ impl<S: Connection> Seats<S> {
         }
     }
 
-    /// Accepts one more client, in the last place, if a place is available. Only the first idle
-    /// client may lose its place.
+    /// Accepts one more client, in the last place and with the next number, if a place is
+    /// available. Only the first idle client may lose its place. No number is given twice: after
+    /// 2^64 - 1 clients no other one is accepted.
     pub fn take_in(&mut self, connection: S)
-        ensures taken { IsTrue (has_room (second_of self.old) (places_of self.old))
-            → (place : Place S) × (connection_of (seat_in place) ≡ connection)
-            × (standing_in place ≡ new_standing (second_of self.old))
-            × (places_of self.new
-            ≡ left (second_of self.old) (places_of self.old) ++ place ∷ []) }
-        ensures full { has_room (second_of self.old) (places_of self.old) ≡ false
-            → places_of self.new ≡ places_of self.old }
-        ensures second { second_of self.new ≡ second_of self.old }
+        ensures taken { is_open self.old ≡ true → TakesIn connection self.old self.new }
+        ensures full { is_open self.old ≡ false → self.new ≡ self.old }
     {
+        let Some(number) = self.last.checked_add(1) else {
+            return;
+        };
         if !self.make_room() {
             return;
         }
-        self.last = self.last.saturating_add(1);
-        let place = Place::new(Client(self.last), connection, self.second);
+        self.last = number;
+        let place = Place::new(Client(number), connection, self.second);
         let _ = self.places.push(place);
     }
 
     /// Moves the client at a place to the last one.
     fn move_last(&mut self, at: usize)
         requires { at < seat_count self.old }
+        ensures moved { (place : Place S) × (Some place ≡ slice_get (places_of self.old) at)
+            × (places_of self.new ≡ remove (places_of self.old) at ++ place ∷ []) }
+        ensures counts { KeepsCounts self.old self.new }
     {
         let place = self.places.remove(at);
         let _ = self.places.push(place);
     }
 
     /// Hears the client at a place. One that sent a line moves to the last place, and one that is
-    /// dropped loses its own.
+    /// let go loses its own.
     fn hear_at(&mut self, at: usize) -> Option<Heard>
         requires { at < seat_count self.old }
+        ensures heard { (place : Place S) × (Some place ≡ slice_get (places_of self.old) at)
+            × HearsOne S.link (second_of self.old) (take at (places_of self.old)) place
+            (drop (at + 1) (places_of self.old)) result (places_of self.new) }
+        ensures counts { KeepsCounts self.old self.new }
     {
         let heard = self.places[at].hear(self.second);
-        let client = self.places[at].client();
-        let is_let_go = self.places[at].standing().is_let_go(&heard);
+        let place = &self.places[at];
+        let client = place.client();
+        let is_let_go = place.standing().is_let_go(&heard);
         match heard {
             Hearing::Line(line) => {
                 self.move_last(at);
@@ -160,7 +168,11 @@ impl<S: Connection> Seats<S> {
     }
 
     /// Hears the clients, from the first place on, up to the first line.
-    pub fn hear(&mut self) -> Option<Heard> {
+    pub fn hear(&mut self) -> Option<Heard>
+        ensures heard { HearsFirst S.link (second_of self.old) (places_of self.old) result
+            (places_of self.new) }
+        ensures counts { KeepsCounts self.old self.new }
+    {
         let mut at = 0;
         for _place in 0..MAX_CLIENTS {
             let before = self.places.len();
@@ -181,7 +193,11 @@ impl<S: Connection> Seats<S> {
     /// Sends a text to a client. The client loses its place if it does not take the whole text at
     /// once, or if it sends no more and no other answer is due to it. Nothing is sent to a client
     /// without a place.
-    pub fn say(&mut self, client: Client, text: &[u8]) {
+    pub fn say(&mut self, client: Client, text: &[u8])
+        ensures said { Says S.link (second_of self.old) client text.now (places_of self.old)
+            (places_of self.new) }
+        ensures counts { KeepsCounts self.old self.new }
+    {
         if let Some(at) = at_client(self.places.as_slice(), client) {
             if !self.places[at].say(text, self.second) {
                 self.places.remove(at);
