@@ -1,7 +1,7 @@
 //! A pending signal that is blocked.
 
-ghost use Rattle.std.specs.Prelude.{◌≡◌, IsTrue, true, IfSome};
-ghost use Rattle.macs_control.specs.Signals.{HasDigits, IsTermPending, is_term_set};
+ghost use Rattle.std.specs.Prelude.{◌≡◌, ◌↔◌, IsTrue, IfSome, List, None, ℕ};
+ghost use Rattle.macs_control.specs.Signals.{HasDigits, IsTermPending, IsTermSet};
 
 use std::alloc::Global;
 use std::fs;
@@ -16,9 +16,10 @@ const MARK: &str = "ShdPnd:\t";
 /// The bit of SIGTERM (15) in that set.
 const TERM: u64 = 16_384;
 
-/// The digits after the mark, up to the end of the line.
+/// The digits after the first mark, up to the end of the line.
 fn digits_in(status: &str) -> Option<&str>
-    ensures { IfSome result (λ digits. HasDigits status.now digits.now) }
+    ensures digits { IfSome result (λ digits. HasDigits status.now digits.now) }
+    ensures none { result ≡ None → (digits : List ℕ) → ¬ HasDigits status.now digits }
 {
     let Some((_, behind)) = status.split_once(MARK) else {
         return None;
@@ -29,9 +30,9 @@ fn digits_in(status: &str) -> Option<&str>
     Some(digits)
 }
 
-/// Whether SIGTERM is in the set of signals given by hex digits.
+/// Whether SIGTERM is in the set of signals given by hex digits. False if they give no 64-bit set.
 fn is_term_in(digits: &str) -> bool
-    ensures { IsTrue result → is_term_set digits.now ≡ true }
+    ensures { IsTrue result ↔ IsTermSet digits.now }
 {
     match u64::from_str_radix(digits, 16) {
         Ok(signals) => signals / TERM % 2 == 1,
@@ -42,7 +43,7 @@ fn is_term_in(digits: &str) -> bool
 /// Whether a text like that of `/proc/self/status` says that SIGTERM is pending: it was sent to the
 /// process, which was started with that signal blocked.
 pub fn is_term_pending(status: &str) -> bool
-    ensures { IsTrue result → IsTermPending status.now }
+    ensures { IsTrue result ↔ IsTermPending status.now }
 {
     match digits_in(status) {
         Some(digits) => is_term_in(digits),
