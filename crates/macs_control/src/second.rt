@@ -24,7 +24,7 @@ fn is_over(last: Option<Duration>, now: Duration) -> bool
 
 impl EachSecond {
     ghost use Rattle.std.specs.Prelude.{◌≡◌, None, Some, if◌then◌else◌};
-    ghost use Rattle.macs_control.specs.Seconds.{is_over};
+    ghost use Rattle.macs_control.specs.Seconds.{LooksAtClock, is_over};
 
     /// Before the first look, which finds that a second has ended.
     pub(crate) fn new() -> EachSecond
@@ -47,7 +47,9 @@ impl EachSecond {
     }
 
     /// Looks at the clock: no second has ended if that fails.
-    pub(crate) fn is_over<C: Clock>(&mut self, clock: &C) -> bool {
+    pub(crate) fn is_over<C: Clock>(&mut self, clock: &C) -> bool
+        ensures { LooksAtClock self.old.last result self.new.last }
+    {
         match clock.monotonic() {
             Ok(now) => self.look(now),
             Err(_) => false,
