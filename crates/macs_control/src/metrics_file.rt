@@ -1,7 +1,7 @@
 //! The counters in a file: a new one is written whole, and then renamed.
 
-ghost use Rattle.std.specs.Prelude.{◌≡◌, [], ◌∷◌, IfOk, string_bytes, codes, ◌++◌};
-ghost use Rattle.macs_control.specs.MetricsFiles.{Replaces};
+ghost use Rattle.std.specs.Prelude.{◌≡◌, IfOk, string_bytes};
+ghost use Rattle.macs_control.specs.MetricsFiles.{Replaces, new_name};
 
 use crate::second::EachSecond;
 use macs_commands::requests::Metrics;
@@ -83,15 +83,20 @@ pub struct MetricsFile<'a, T> {
 
 /// The name under which a new file is written.
 fn new_name(alloc: Global, path: &str) -> Result<String, AllocError>
-    ensures { IfOk result (λ name. string_bytes name ≡ path.now ++ codes ".new") }
+    ensures { IfOk result (λ name. string_bytes name ≡ new_name path.now) }
 {
     let name = format!(in alloc; "{path}.new")?;
     Ok(name)
 }
 
 impl<'a, T: Files + Clock> MetricsFile<'a, T> {
+    ghost use Rattle.std.specs.Prelude.{IfOk, string_bytes};
+    ghost use Rattle.macs_control.specs.MetricsFiles.{IsFileAt, Replaces};
+
     /// The file with this name, which need not exist.
-    pub fn new(rt: &'a T, alloc: Global, path: &'a str) -> Result<MetricsFile<'a, T>, AllocError> {
+    pub fn new(rt: &'a T, alloc: Global, path: &'a str) -> Result<MetricsFile<'a, T>, AllocError>
+        ensures { IfOk result (IsFileAt path.now) }
+    {
         let new = new_name(alloc, path)?;
         Ok(MetricsFile {
             rt,
@@ -100,16 +105,28 @@ impl<'a, T: Files + Clock> MetricsFile<'a, T> {
             second: EachSecond::new(),
         })
     }
+
+    /// Replaces the file by one with this text.
+    fn write_over<F: FileCalls>(&self, files: &mut F, text: &[u8])
+        ensures { Replaces (string_bytes self.now.new) self.now.path.now text.now
+            (F.asked files.old) (F.asked files.new) }
+    {
+        replace(files, self.new.as_str(), self.path, text);
+    }
 }
 
 impl<T: Files + Clock> Metrics for MetricsFile<'_, T> {
+    ghost use Rattle.macs_control.specs.MetricsFiles.{IsNoted};
+
+    ghost does = { IsNoted };
+
     fn is_due(&mut self) -> bool {
         self.second.is_over(self.rt)
     }
 
     fn put(&mut self, text: &[u8]) {
         let mut files = SystemFiles { rt: self.rt };
-        replace(&mut files, self.new.as_str(), self.path, text);
+        self.write_over(&mut files, text);
     }
 }
 
@@ -121,12 +138,17 @@ pub enum MetricsPlace<'a, T> {
 }
 
 impl<'a, T: Files + Clock> MetricsPlace<'a, T> {
+    ghost use Rattle.std.specs.Prelude.{IfOk};
+    ghost use Rattle.macs_control.specs.MetricsFiles.{IsPlaceAt};
+
     /// The file with this name, if one is given.
     pub fn new(
         rt: &'a T,
         alloc: Global,
         path: Option<&'a str>,
-    ) -> Result<MetricsPlace<'a, T>, AllocError> {
+    ) -> Result<MetricsPlace<'a, T>, AllocError>
+        ensures { IfOk result (IsPlaceAt path.entry) }
+    {
         match path {
             None => Ok(MetricsPlace::Nowhere),
             Some(path) => {
@@ -138,6 +160,10 @@ impl<'a, T: Files + Clock> MetricsPlace<'a, T> {
 }
 
 impl<T: Files + Clock> Metrics for MetricsPlace<'_, T> {
+    ghost use Rattle.macs_control.specs.MetricsFiles.{IsNotedAt};
+
+    ghost does = { IsNotedAt };
+
     fn is_due(&mut self) -> bool {
         match self {
             MetricsPlace::Nowhere => false,
