@@ -1,10 +1,11 @@
 -- What is said between a client and a relay.
-use Rattle.std.proofs.Common.{◌≡◌, ◌∙◌, ℕ, List, [], ◌∷◌, ◌++◌, Option, Some, None, sym, ap, refl, subst}
-use Rattle.std.proofs.Common.{IfErr, Result, Ok, Err}
+use Rattle.std.proofs.Common.{◌≡◌, ◌∙◌, ◌||◌, ℕ, Bool, true, false, List, [], ◌∷◌, ◌++◌, Option, Some, None, sym, ap}
+use Rattle.std.proofs.Common.{IfErr, Result, Ok, Err, refl, subst}
 use Rattle.std.proofs.lemmas.List.{append-nil, append_assoc}
 use Rattle.macs_commands.specs.Requests.{end_line}
-use Rattle.macs_control.specs.Asking.{Conversation, Reads, ReadsAnswer, ReadsSome, SendsSome, conversation}
-use Rattle.macs_control.specs.Links.{Hears, Link}
+use Rattle.macs_control.specs.Asking.{Conversation, Outlives, OutlivesNot, Reads, ReadsAndFinds, ReadsAnswer}
+use Rattle.macs_control.specs.Asking.{ReadsSome, SendsSome, conversation}
+use Rattle.macs_control.specs.Links.{Hears, Link, over_after}
 use Rattle.macs_control.specs.declared.seat.Hearing.{Hearing}
 use Rattle.macs_control.specs.declared.seat.Hearing.TheVariants as hears
 
@@ -16,18 +17,23 @@ reads-none (Some c) = (c.unread, refl, refl)
 some-is : (a b : Conversation) → Some a ≡ Some b → a ≡ b
 some-is a b is = ap (λ (o : Option Conversation). elim o [ None ↦ a | Some c ↦ c ]) is
 
--- more is read
-pub reads-more : (start mid new : Option Conversation) (one other : List ℕ) → Reads start one mid → Reads mid other new
-    → Reads start (one ++ other) new
-reads-more None mid new one other first then = tt
-reads-more (Some all) None new one other first then = let e = first.2 in cc
-reads-more (Some all) (Some between) new one other (left, is, was) (after, next, now) =
+-- more is read, and then the relay may be found to have ended
+pub finds-more : (ended : Bool) (start mid new : Option Conversation) (one other : List ℕ) → Reads start one mid
+    → ReadsAndFinds mid other ended new → ReadsAndFinds start (one ++ other) ended new
+finds-more ended None mid new one other first then = tt
+finds-more ended (Some all) None new one other first then = let e = first.2 in cc
+finds-more ended (Some all) (Some between) new one other (left, is, was) (after, next, now) =
     let same : between ≡ record all { unread = left } = some-is between (record all { unread = left }) was in
     let rest : left ≡ other ++ after = sym (ap (λ (c : Conversation). c.unread) same) ∙ next in (
       after,
       is ∙ ap (λ (l : List ℕ). one ++ l) rest ∙ sym (append_assoc one other after),
-      now ∙ ap (λ (c : Conversation). Some (record c { unread = after })) same,
+      now ∙ ap (λ (c : Conversation). Some (record { unread = after; sent = c.sent; over = ended || c.over })) same,
     )
+
+-- more is read
+pub reads-more : (start mid new : Option Conversation) (one other : List ℕ) → Reads start one mid → Reads mid other new
+    → Reads start (one ++ other) new
+reads-more = finds-more false
 
 -- a line is read after a text
 pub line-after : (start mid new : Option Conversation) (text line : List ℕ) → Reads start text mid
@@ -43,12 +49,25 @@ end-after start mid new text line status first then is =
 -- some more is read
 pub some-more : (start mid new : Option Conversation) (one other : List ℕ) → Reads start one mid → Reads mid other new
     → ReadsSome start new
-some-more start mid new one other first then = (one ++ other, reads-more start mid new one other first then)
+some-more start mid new one other first then = (one ++ other, false, reads-more start mid new one other first then)
 
--- a hearing after some were read
-pub some-after : (start mid new : Option Conversation) (other : List ℕ) → ReadsSome start mid → Reads mid other new
-    → ReadsSome start new
-some-after start mid new other (one, first) then = some-more start mid new one other first then
+-- a relay that has not ended is heard once more, and has not ended
+pub lasts-on : (start mid new : Option Conversation) (ended : Bool) → ended ≡ false → OutlivesNot start mid
+    → (octets : List ℕ) × ReadsAndFinds mid octets ended new → OutlivesNot start new
+lasts-on start mid new ended not (one, first) (other, then) = (
+  one ++ other,
+  subst (λ (b : Bool). ReadsAndFinds start (one ++ other) b new) not
+      (finds-more ended start mid new one other first then),
+)
+
+-- or has ended
+pub lasts-no-more : (start mid new : Option Conversation) (ended : Bool) → ended ≡ true → OutlivesNot start mid
+    → (octets : List ℕ) × ReadsAndFinds mid octets ended new → Outlives start new
+lasts-no-more start mid new ended has (one, first) (other, then) = (
+  one ++ other,
+  subst (λ (b : Bool). ReadsAndFinds start (one ++ other) b new) has
+      (finds-more ended start mid new one other first then),
+)
 
 -- this holds after any failure
 pub if-failed : {T E P : Type 0} (result : Result T E) → P → IfErr result (λ _. P)
@@ -60,26 +79,42 @@ abbrev pub read_in : Hearing → List ℕ
 read_in (hears.Line line) = line.items ++ 10 ∷ []
 read_in other = []
 
-kept-so : (kept : List ℕ) (old left : Link) (new : Option Link) → new ≡ Some left → left.given ≡ old.given
-    → conversation kept new ≡ Some (record { unread = kept ++ left.coming; sent = old.given })
-kept-so kept old left new is given =
+-- and finds
+abbrev pub has_ended : Hearing → Bool
+has_ended heard = over_after heard false
+
+kept-so : (kept : List ℕ) (over : Bool) (old left : Link) (new : Option Link) → new ≡ Some left
+    → left.given ≡ old.given → left.over ≡ over
+    → conversation kept new ≡ Some (record { unread = kept ++ left.coming; sent = old.given; over = over })
+kept-so kept over old left new is given known =
     ap (λ (o : Option Link). conversation kept o) is
-    ∙ ap (λ (sent : List ℕ). Some (record { unread = kept ++ left.coming; sent = sent })) given
+    ∙ ap (λ (sent : List ℕ). Some (record { unread = kept ++ left.coming; sent = sent; over = left.over })) given
+    ∙ ap (λ (b : Bool). Some (record { unread = kept ++ left.coming; sent = old.given; over = b })) known
 
 pub heard-reads : (held kept : List ℕ) (old new : Option Link) (heard : Hearing) → Hears held old heard kept new
-    → Reads (conversation held old) (read_in heard) (conversation kept new)
+    → ReadsAndFinds (conversation held old) (read_in heard) (has_ended heard) (conversation kept new)
 heard-reads held kept None new heard is = tt
-heard-reads held kept (Some old) new (hears.Line line) (left, is, given, (cut, whole)) = (
+heard-reads held kept (Some old) new (hears.Line line) (left, is, given, over, (cut, whole)) = (
   kept ++ left.coming,
   cut ∙ sym (append_assoc line.items (10 ∷ []) (kept ++ left.coming)),
-  kept-so kept old left new is given,
+  kept-so kept old.over old left new is given over,
 )
-heard-reads held kept (Some old) new hears.Silence (left, is, given, same) =
-    (kept ++ left.coming, sym same, kept-so kept old left new is given)
-heard-reads held kept (Some old) new hears.Ended (left, is, given, (same, whole)) =
-    (kept ++ left.coming, sym same, kept-so kept old left new is given)
-heard-reads held kept (Some old) new hears.Gone (left, is, given, same) =
-    (kept ++ left.coming, sym same, kept-so kept old left new is given)
+heard-reads held kept (Some old) new hears.Silence (left, is, given, over, same) =
+    (kept ++ left.coming, sym same, kept-so kept old.over old left new is given over)
+heard-reads held kept (Some old) new hears.Ended (left, is, given, over, (same, whole)) =
+    (kept ++ left.coming, sym same, kept-so kept true old left new is given over)
+heard-reads held kept (Some old) new hears.Gone (left, is, given, over, same) =
+    (kept ++ left.coming, sym same, kept-so kept old.over old left new is given over)
+
+-- a line is read, and no end is found
+pub line-heard : (line : _) (held kept : List ℕ) (old new : Option Link) (heard : Hearing) → heard ≡ hears.Line line
+    → Hears held old heard kept new
+    → (octets : List ℕ) × ReadsAndFinds (conversation held old) octets false (conversation kept new)
+line-heard line held kept old new heard is hears = (
+  line.items ++ 10 ∷ [],
+  subst (λ (h : Hearing). ReadsAndFinds (conversation held old) (read_in h) (has_ended h) (conversation kept new)) is
+      (heard-reads held kept old new heard hears),
+)
 
 -- nothing is sent
 pub sends-none : (c : Option Conversation) (octets : List ℕ) → SendsSome c octets c

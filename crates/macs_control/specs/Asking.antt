@@ -1,5 +1,5 @@
 -- A client of a relay: what it sends, the lines of the relay, and its answer.
-use Rattle.std.specs.Prelude.{◌≡◌, ◌++◌, ⊤, ℕ, List, [], ◌∷◌, Option, Some, None}
+use Rattle.std.specs.Prelude.{◌≡◌, ◌++◌, ◌||◌, ⊤, ℕ, Bool, true, false, List, [], ◌∷◌, Option, Some, None}
 use Rattle.macs_commands.specs.Inboxes.{HasNoFeed}
 use Rattle.macs_commands.specs.Requests.{end_line}
 use Rattle.macs_control.specs.Links.{Link}
@@ -12,29 +12,47 @@ abbrev pub seat_of : {S : Type 0} → Asker S → Seat S
 seat_of asker = asker.relay
 
 -- what is known of a conversation with a relay: the octets that it sent and that were not read yet, and those sent to
--- it, both in order
+-- it, both in order; and whether it was found that the relay has ended the connection
 pub record Conversation : Type 0 where
   pub unread : List ℕ
   pub sent : List ℕ
+  pub over : Bool
 
 -- the conversation of a client that holds these octets, if it is known what its connection carries
 abbrev pub conversation : List ℕ → Option Link → Option Conversation
 conversation held None = None
-conversation held (Some link) = Some (record { unread = held ++ link.coming; sent = link.given })
+conversation held (Some link) =
+    Some (record { unread = held ++ link.coming; sent = link.given; over = link.over })
 
 -- the conversation of a client
 abbrev pub conversation_of : {S : Type 0} → (S → Option Link) → Asker S → Option Conversation
 conversation_of link asker = conversation (held_by (seat_of asker)) (link (connection_of (seat_of asker)))
 
--- these octets are read, and nothing is sent
-abbrev pub Reads : Option Conversation → List ℕ → Option Conversation → Type 0
-Reads None octets new = ⊤
-Reads (Some old) octets new =
-    (left : List ℕ) × (old.unread ≡ octets ++ left) × (new ≡ Some (record old { unread = left }))
+-- these octets are read, and nothing is sent; and it is found that the relay has ended, or not
+abbrev pub ReadsAndFinds : Option Conversation → List ℕ → Bool → Option Conversation → Type 0
+ReadsAndFinds None octets ended new = ⊤
+ReadsAndFinds (Some old) octets ended new = (left : List ℕ) × (old.unread ≡ octets ++ left)
+    × (new ≡ Some (record { unread = left; sent = old.sent; over = ended || old.over }))
 
--- some octets are read, and nothing is sent
+-- these octets are read, and nothing else is done or found
+abbrev pub Reads : Option Conversation → List ℕ → Option Conversation → Type 0
+Reads old octets new = ReadsAndFinds old octets false new
+
+-- nothing is read or sent; the relay may be found to have ended
+abbrev pub ReadsNothing : Option Conversation → Option Conversation → Type 0
+ReadsNothing old new = (ended : Bool) × ReadsAndFinds old [] ended new
+
+-- some octets are read, and nothing is sent; the relay may be found to have ended
 abbrev pub ReadsSome : Option Conversation → Option Conversation → Type 0
-ReadsSome old new = (octets : List ℕ) × Reads old octets new
+ReadsSome old new = (octets : List ℕ) × (ended : Bool) × ReadsAndFinds old octets ended new
+
+-- some octets are read, nothing is sent, and the relay is found to have ended
+abbrev pub Outlives : Option Conversation → Option Conversation → Type 0
+Outlives old new = (octets : List ℕ) × ReadsAndFinds old octets true new
+
+-- some octets are read, nothing is sent, and the relay is not found to have ended
+abbrev pub OutlivesNot : Option Conversation → Option Conversation → Type 0
+OutlivesNot old new = (octets : List ℕ) × Reads old octets new
 
 -- these octets are sent, and nothing is read
 abbrev pub Sends : Option Conversation → List ℕ → Option Conversation → Type 0

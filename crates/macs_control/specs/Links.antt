@@ -7,10 +7,11 @@ use Rattle.macs_control.specs.declared.seat.Hearing.TheVariants as hears
 use Rattle.macs_commands.specs.Inboxes.{HasNoFeed}
 
 -- what is known about a connection: the octets that the other side sent and that were not taken yet, and those sent to
--- it, both in order
+-- it, both in order; and whether a read found that the other side has ended, with everything that it sent taken
 pub record Link : Type 0 where
   pub coming : List ℕ
   pub given : List ℕ
+  pub over : Bool
 
 -- no more octets are returned than fit
 abbrev pub IsAtMost : Taken → ℕ → Type 0
@@ -23,7 +24,7 @@ TakesOctets None new into answer = ⊤
 TakesOctets (Some old) new into (Octets count) =
     (rest : List ℕ) × (old.coming ≡ take count into ++ rest) × (new ≡ Some (record old { coming = rest }))
 TakesOctets (Some old) new into Nothing = new ≡ Some old
-TakesOctets (Some old) new into Ended = (old.coming ≡ []) × (new ≡ Some old)
+TakesOctets (Some old) new into Ended = (old.coming ≡ []) × (new ≡ Some (record old { over = true }))
 TakesOctets (Some old) new into Gone = new ≡ Some old
 
 -- octets are sent whole; else some of them, or none
@@ -39,7 +40,8 @@ Fills held None taken kept new = ⊤
 Fills held (Some old) (Octets count) kept new =
     (came rest : List ℕ) × (old.coming ≡ came ++ rest) × (kept ≡ held ++ came)
     × (new ≡ Some (record old { coming = rest }))
-Fills held (Some old) Ended kept new = (old.coming ≡ []) × (kept ≡ held) × (new ≡ Some old)
+Fills held (Some old) Ended kept new =
+    (old.coming ≡ []) × (kept ≡ held) × (new ≡ Some (record old { over = true }))
 Fills held (Some old) other kept new = (kept ≡ held) × (new ≡ Some old)
 
 -- What is heard of a client with these unheard octets: its first line, after which the rest is left; or no line is
@@ -55,9 +57,14 @@ abbrev pub IsOneLine : Hearing → Type 0
 IsOneLine (hears.Line line) = HasNoFeed line.items
 IsOneLine other = ⊤
 
+-- whether a connection is over after this was heard
+abbrev pub over_after : Hearing → Bool → Bool
+over_after hears.Ended over = true
+over_after other over = over
+
 -- the same for the octets held and a connection whose octets are known; and nothing is sent
 abbrev pub Hears : List ℕ → Option Link → Hearing → List ℕ → Option Link → Type 0
 Hears held None heard kept new = ⊤
 Hears held (Some old) heard kept new =
-    (left : Link) × (new ≡ Some left) × (left.given ≡ old.given)
+    (left : Link) × (new ≡ Some left) × (left.given ≡ old.given) × (left.over ≡ over_after heard old.over)
     × HearsOf (held ++ old.coming) heard (kept ++ left.coming)

@@ -67,9 +67,12 @@ fn put_line(text: &mut Vec<u8>, line: &Line) -> Result<(), AllocError>
 }
 
 impl<S: Connection> Asker<S> {
-    ghost use Rattle.std.specs.Prelude.{◌≡◌, ◌++◌, ◌∷◌, [], IfErr, IfOk, IfSome, None, OnOk};
-    ghost use Rattle.macs_control.specs.Asking.{Reads, ReadsAnswer, ReadsLine, ReadsSome, Sends};
-    ghost use Rattle.macs_control.specs.Asking.{SendsSome, conversation_of, seat_of};
+    ghost use Rattle.std.specs.Prelude.{◌≡◌, ◌++◌, ◌∷◌, [], ℕ, IfErr, IfOk, IfSome, List, None};
+    ghost use Rattle.std.specs.Prelude.{OnOk};
+    ghost use Rattle.macs_control.specs.Asking.{Outlives, OutlivesNot, Reads, ReadsAndFinds};
+    ghost use Rattle.macs_control.specs.Asking.{ReadsAnswer, ReadsLine, ReadsNothing, ReadsSome};
+    ghost use Rattle.macs_control.specs.Asking.{Sends, SendsSome};
+    ghost use Rattle.macs_control.specs.Asking.{conversation_of, seat_of};
     ghost use Rattle.macs_control.specs.Seats.{connection_of, held_by};
 
     /// A client over a connection from which nothing was heard yet.
@@ -102,7 +105,7 @@ impl<S: Connection> Asker<S> {
     fn next_line(&mut self) -> Option<Line>
         ensures line { IfSome result (λ line. ReadsLine (conversation_of S.link self.old)
             line.items (conversation_of S.link self.new)) }
-        ensures none { result ≡ None → Reads (conversation_of S.link self.old) []
+        ensures none { result ≡ None → ReadsNothing (conversation_of S.link self.old)
             (conversation_of S.link self.new) }
     {
         for _look in 0..=MAX_LINE {
@@ -119,7 +122,7 @@ impl<S: Connection> Asker<S> {
     fn line(&mut self) -> Result<Line, AskFault>
         ensures line { IfOk result (λ line. ReadsLine (conversation_of S.link self.old) line.items
             (conversation_of S.link self.new)) }
-        ensures none { IfErr result (λ fault. Reads (conversation_of S.link self.old) []
+        ensures none { IfErr result (λ fault. ReadsNothing (conversation_of S.link self.old)
             (conversation_of S.link self.new)) }
     {
         match self.next_line() {
@@ -128,16 +131,40 @@ impl<S: Connection> Asker<S> {
         }
     }
 
-    /// Waits until the relay ends the connection, or sends nothing for a minute.
-    pub fn outlast(&mut self)
-        ensures { ReadsSome (conversation_of S.link self.old) (conversation_of S.link self.new) }
+    /// Hears the relay once, and returns whether it is found to have ended the connection. `None`
+    /// if the connection failed.
+    fn hear_end(&mut self) -> Option<bool>
+        ensures heard { IfSome result (λ ended. (octets : List ℕ)
+            × ReadsAndFinds (conversation_of S.link self.old) octets ended
+            (conversation_of S.link self.new)) }
+        ensures gone { result ≡ None → Reads (conversation_of S.link self.old) []
+            (conversation_of S.link self.new) }
+    {
+        match self.relay.hear() {
+            Hearing::Ended => Some(true),
+            Hearing::Gone => None,
+            Hearing::Line(_) => Some(false),
+            Hearing::Silence => Some(false),
+        }
+    }
+
+    /// Waits until the relay has ended the connection. Fails with `Gone` if the connection fails
+    /// before, as it does once the relay has sent nothing for a minute, and after 65,536 reads.
+    pub fn outlast(&mut self) -> Result<(), AskFault>
+        ensures over { OnOk result (Outlives (conversation_of S.link self.old)
+            (conversation_of S.link self.new)) }
+        ensures gone { IfErr result (λ fault. (fault ≡ AskFault.Gone)
+            × OutlivesNot (conversation_of S.link self.old) (conversation_of S.link self.new)) }
     {
         for _look in 0..MAX_LINES {
-            match self.relay.hear() {
-                Hearing::Ended | Hearing::Gone => return,
-                Hearing::Line(_) | Hearing::Silence => {}
+            let Some(has_ended) = self.hear_end() else {
+                return Err(AskFault::Gone);
+            };
+            if has_ended {
+                return Ok(());
             }
         }
+        Err(AskFault::Gone)
     }
 
     /// Reads an answer up to its end. If that fails, a part of it may have been read.

@@ -40,11 +40,14 @@ impl PatientStream {
 }
 
 impl Connection for PatientStream {
+    /// A relay that ends before it took all that was sent resets the connection. Linux reports that
+    /// once everything that arrived was taken, and once alone: then the relay has ended.
     fn take_into(&mut self, into: &mut [u8]) -> Taken {
         match self.stream.read(into) {
             Ok(0) => Taken::Ended,
             Ok(count) => Taken::Octets(count),
             Err(error) if error.kind() == ErrorKind::Interrupted => Taken::Nothing,
+            Err(error) if error.kind() == ErrorKind::ConnectionReset => Taken::Ended,
             Err(_) => Taken::Gone,
         }
     }

@@ -1,6 +1,6 @@
 -- What was said to a relay, and its answers.
-use Rattle.std.proofs.Common.{◌≡◌, ◌≢◌, ◌∙◌, inl, inr, ℕ, ◌+◌, ◌<◌, ◌≤◌, Bool, true, if◌then◌else◌, List, [], ◌∷◌}
-use Rattle.std.proofs.Common.{◌++◌, length, take, drop, get_or, Option, Some, None, is_some, Result, Ok, Err}
+use Rattle.std.proofs.Common.{◌≡◌, ◌≢◌, ◌∙◌, inl, inr, ℕ, ◌+◌, ◌<◌, ◌≤◌, Bool, true, false, if◌then◌else◌, List, []}
+use Rattle.std.proofs.Common.{◌∷◌, ◌++◌, length, take, drop, get_or, Option, Some, None, is_some, Result, Ok, Err}
 use Rattle.std.proofs.Common.{IfErr, OnOk, ap, refl, subst, sym, arith}
 use Rattle.std.specs.Io.KnownBytes.{Appends}
 use Rattle.std.proofs.KnownBytes.{Appends-nil, Appends-trans}
@@ -39,7 +39,7 @@ module _ (old : Option Conversation) (asked : Request) where
   -- then nothing is read
   pub vain-sent : (new : Option Conversation) → SendsSome old (request_line asked ++ 10 ∷ []) new
       → AsksInVain old asked new
-  vain-sent new cut = (new, cut, ([], reads-none new))
+  vain-sent new cut = (new, cut, ([], false, reads-none new))
 
   -- it is sent, and a part of an answer is read
   pub vain-read : (between new : Option Conversation) → Sends old (request_line asked ++ 10 ∷ []) between

@@ -13,5 +13,6 @@ pub mod Performed
 pub mod Printing
 pub mod Refused
 pub mod Relayed
+pub mod TextsAsked
 pub mod Told
 mod WrittenOver

@@ -7,10 +7,11 @@ use Rattle.std.proofs.KnownBytes.{Appends-nil}
 use Rattle.macs_config.specs.declared.command.Command.{Command}
 use Rattle.macs_commands.specs.declared.requests.request.Request.{Request}
 use Rattle.macs_commands.specs.declared.requests.request.Request.TheVariants as request
-use Rattle.macs_control.specs.Asking.{Conversation, ReadsSome}
+use Rattle.macs_control.specs.Asking.{Conversation, Outlives}
 use Rattle.macs_program.specs.Asking.{AppliesEach, AppliesFile, AskFails, AsksForText, Converses, EndsAsking}
-use Rattle.macs_program.specs.Asking.{IsForOther, IsOfAsking, IsOther, IsUnanswered, IsUnheard, IsUnshown, LacksEnd}
-use Rattle.macs_program.specs.Asking.{LacksOutcome, PrintsAnswer, PrintsFront, SaysNoMore, SaysNothing, SaysOfAsking}
+use Rattle.macs_program.specs.Asking.{FailsNowhere, FailsToEnd, IsForOther, IsOfAsking, IsOther, IsUnanswered}
+use Rattle.macs_program.specs.Asking.{IsUnheard, IsUnprinted, LacksDone, LacksEnd, LacksOutcome, LacksText}
+use Rattle.macs_program.specs.Asking.{PrintsAnswer, PrintsFront, SaysNoMore, SaysNothing, SaysOfAsking}
 use Rattle.macs_program.specs.Asking.{SaysOfCommands, SaysOfSocket, TellsOfSocket, failure_in, is_of_endpoint}
 use Rattle.macs_offline.specs.Checking.{IsSaidOfFile}
 use Rattle.macs_cli.specs.Objects.{in_form}
@@ -103,7 +104,7 @@ pub before-unheard : (failure : Failure) → IsUnheard failure → IsBeforeComma
 before-unheard failure (inl memory) = subst IsBeforeCommands (sym memory) (tt, λ e. cc)
 before-unheard failure (inr control) = subst IsBeforeCommands (sym control) (tt, λ e. cc)
 
-before-status : (status : ℕ) (failure : Failure) → failure ≡ failure_in status → IsBeforeCommands failure
+pub before-status : (status : ℕ) (failure : Failure) → failure ≡ failure_in status → IsBeforeCommands failure
 before-status status failure is = subst IsBeforeCommands (sym is) (not-shown status)
 
 before_other_by : (b : Bool) → IsBeforeCommands (if b then Commands else Control)
@@ -136,11 +137,33 @@ ended-asking old new command failure (inl lacks) = (before-outcome old new comma
 ended-asking old new command failure (inr (outcome, asked, output)) =
     subst (IsOfAsking SaysNothing) (sym output) tt
 
-unshown-asking : (status : ℕ) (is_json : Bool) (failure : Failure) → IsUnshown status is_json failure
+-- a text that is not printed
+lacking-done : (old new : Option Conversation) (asked : Request) (failure : Failure) → LacksDone old asked failure new
     → IsOfAsking SaysNothing failure
-unshown-asking status is_json failure (inl (some, is)) = (before-status status failure is).0
-unshown-asking status is_json failure (inr (none, inl output)) = subst (IsOfAsking SaysNothing) (sym output) tt
-unshown-asking status is_json failure (inr (none, inr (json, unheard))) = (before-unheard failure unheard).0
+lacking-done old new asked failure (inl (vain, unheard)) = (before-unheard failure unheard).0
+lacking-done old new asked failure (inr (text, status, asks, undone)) = (before-status status failure undone.1).0
+
+unprinted-asking : (is_json : Bool) (failure : Failure) → IsUnprinted is_json failure → IsOfAsking SaysNothing failure
+unprinted-asking is_json failure (inl output) = subst (IsOfAsking SaysNothing) (sym output) tt
+unprinted-asking is_json failure (inr (json, unheard)) = (before-unheard failure unheard).0
+
+module _ (asked : Request) (Follows : Option Conversation → Option Conversation → Type 0)
+    (Fails : Option Conversation → Failure → Option Conversation → Type 0)
+    (ours : (between : Option Conversation) (failure : Failure) (new : Option Conversation) → Fails between failure new
+    → IsOfAsking SaysNothing failure) where
+  lacking-text : (is_json : Bool) (old new : Option Conversation) (failure : Failure)
+      → LacksText asked Follows Fails is_json old failure new → IsOfAsking SaysNothing failure
+  lacking-text is_json old new failure (inl lacks) = lacking-done old new asked failure lacks
+  lacking-text is_json old new failure (inr (inl (text, between, asks, fails))) = ours between failure new fails
+  lacking-text is_json old new failure (inr (inr (text, done, unprinted))) = unprinted-asking is_json failure unprinted
+
+nowhere-asking : (between : Option Conversation) (failure : Failure) (new : Option Conversation)
+    → FailsNowhere between failure new → IsOfAsking SaysNothing failure
+nowhere-asking between failure new none = absurd none
+
+ending-asking : (between : Option Conversation) (failure : Failure) (new : Option Conversation)
+    → FailsToEnd between failure new → IsOfAsking SaysNothing failure
+ending-asking between failure new (lasts, is) = subst (IsOfAsking SaysNothing) (sym is) tt
 
 pub no-commands : (name : List ℕ) (failure : Failure)
     → IsUnread name failure ⊎ ((octets : List ℕ) × Complains (IsSaidOfFile octets) failure)
@@ -284,21 +307,22 @@ module _ {W : Type 0} (contents : W → Option (List ℕ)) (has_failed : W → B
     pub broken : IfErr result (λ failure. failure ≡ Output → has_failed after ≡ true)
 
   text-so : (Says : List ℕ → Type 0) (asked : Request) (Follows : Option Conversation → Option Conversation → Type 0)
-      (is_json : Bool) (result : Result Status Failure)
-      → AsksForText contents has_failed asked Follows is_json old before result new after
+      (Fails : Option Conversation → Failure → Option Conversation → Type 0)
+      → ((between : Option Conversation) (failure : Failure) (end : Option Conversation) → Fails between failure end
+      → IsOfAsking SaysNothing failure)
+      → (is_json : Bool) (result : Result Status Failure)
+      → AsksForText contents has_failed asked Follows Fails is_json old before result new after
       → TextSo Says is_json result
-  text-so Says asked Follows is_json (Ok status) is = record {
+  text-so Says asked Follows Fails ours is_json (Ok status) is = record {
     printed = (is.printed.0, is.printed.2, is.printed.3);
     failed = tt;
     front = tt;
     broken = tt;
   }
-  text-so Says asked Follows is_json (Err failure) is = record {
+  text-so Says asked Follows Fails ours is_json (Err failure) is = record {
     printed = tt;
-    failed = asking-more SaysNothing Says (λ said none. absurd none) failure (elim is.failed [
-      | inl vain ↦ (before-unheard failure vain.1).0
-      | inr shown ↦ unshown-asking shown.1 is_json failure shown.3
-    ]);
+    failed = asking-more SaysNothing Says (λ said none. absurd none) failure
+        (lacking-text asked Follows Fails ours is_json old new failure is.failed);
     front = λ other. ap contents (is.silent other);
     broken = is.broken;
   }
@@ -365,21 +389,21 @@ module _ {W : Type 0} (contents : W → Option (List ℕ)) (has_failed : W → B
       → Converses remaining contents has_failed asked is_json old before result new after
       → PutSo (SaysOfAsking name asked) asked is_json (contents before) (contents after) (has_failed after) result
   put-so remaining question.Show is_json result is =
-      let so = text-so (SaysOfSocket name) request.Show SaysNoMore is_json result is in
+      let so = text-so (SaysOfSocket name) request.Show SaysNoMore FailsNowhere nowhere-asking is_json result is in
       record { printed = so.printed; failed = so.failed; front = so.front; broken = so.broken }
   put-so remaining question.Counters is_json result is =
-      let so = text-so (SaysOfSocket name) request.Counters SaysNoMore is_json result is in
+      let so = text-so (SaysOfSocket name) request.Counters SaysNoMore FailsNowhere nowhere-asking is_json result is in
       record { printed = so.printed; failed = so.failed; front = so.front; broken = so.broken }
   put-so remaining question.Keys is_json result is =
-      let so = text-so (SaysOfSocket name) request.Keys SaysNoMore is_json result is in
+      let so = text-so (SaysOfSocket name) request.Keys SaysNoMore FailsNowhere nowhere-asking is_json result is in
       record { printed = so.printed; failed = so.failed; front = so.front; broken = so.broken }
   put-so remaining question.Traffic is_json result is =
-      let so = text-so (SaysOfSocket name) request.Traffic SaysNoMore is_json result is in
+      let so = text-so (SaysOfSocket name) request.Traffic SaysNoMore FailsNowhere nowhere-asking is_json result is in
       record { printed = so.printed; failed = so.failed; front = so.front; broken = so.broken }
   put-so remaining question.About is_json result is =
-      let so = text-so (SaysOfSocket name) request.About SaysNoMore is_json result is in
+      let so = text-so (SaysOfSocket name) request.About SaysNoMore FailsNowhere nowhere-asking is_json result is in
       record { printed = so.printed; failed = so.failed; front = so.front; broken = so.broken }
   put-so remaining question.Stop is_json result is =
-      let so = text-so (SaysOfSocket name) request.Stop ReadsSome false result is in
+      let so = text-so (SaysOfSocket name) request.Stop Outlives FailsToEnd ending-asking false result is in
       record { printed = so.printed; failed = so.failed; front = so.front; broken = so.broken }
   put-so remaining (question.Apply file) is_json result is = file-so remaining file is_json result is

@@ -10,7 +10,7 @@ use Rattle.macs_config.specs.declared.refusal.Refusal.{Refusal}
 use Rattle.macs_commands.specs.Requests.{request_line}
 use Rattle.macs_commands.specs.declared.requests.request.Request.{Request}
 use Rattle.macs_commands.specs.declared.requests.request.Request.TheVariants as request
-use Rattle.macs_control.specs.Asking.{Conversation, ReadsAnswer, ReadsSome, Sends, SendsSome}
+use Rattle.macs_control.specs.Asking.{Conversation, Outlives, OutlivesNot, ReadsAnswer, ReadsSome, Sends, SendsSome}
 use Rattle.macs_cli.specs.Objects.{in_form}
 use Rattle.macs_record.specs.Sectors.{Begins}
 use Rattle.macs_cli.specs.Words.{is_report}
@@ -145,6 +145,14 @@ IsUnheard failure = (failure ≡ failures.Memory) ⊎ (failure ≡ failures.Cont
 abbrev pub SaysNoMore : Option Conversation → Option Conversation → Type 0
 SaysNoMore old new = new ≡ old
 
+-- and nothing is in the way of the text of the answer
+abbrev pub FailsNowhere : Option Conversation → Failure → Option Conversation → Type 0
+FailsNowhere old failure new = ⊥
+
+-- a relay that was asked to end is not found to have ended
+abbrev pub FailsToEnd : Option Conversation → Failure → Option Conversation → Type 0
+FailsToEnd old failure new = OutlivesNot old new × (failure ≡ failures.Control)
+
 -- a request is sent, its answer is read, and then this is done
 abbrev pub AsksThen : (Option Conversation → Option Conversation → Type 0) → Option Conversation → Request → List ℕ → ℕ
     → Option Conversation → Type 0
@@ -155,21 +163,33 @@ AsksThen Follows old asked text status new =
 abbrev pub IsUnprinted : Bool → Failure → Type 0
 IsUnprinted is_json failure = (failure ≡ failures.Output) ⊎ ((is_json ≡ true) × IsUnheard failure)
 
--- why nothing is printed of an answer with this status
-abbrev pub IsUnshown : ℕ → Bool → Failure → Type 0
-IsUnshown status is_json failure =
-    ((status ≢ 0) × (failure ≡ failure_in status)) ⊎ ((status ≡ 0) × IsUnprinted is_json failure)
+-- an answer means that the request was not carried out
+abbrev pub IsUndone : ℕ → Failure → Type 0
+IsUndone status failure = (status ≢ 0) × (failure ≡ failure_in status)
+
+-- a request has no answer, or one that means that it was not carried out
+abbrev pub LacksDone : Option Conversation → Request → Failure → Option Conversation → Type 0
+LacksDone old asked failure new = (AsksInVain old asked new × IsUnheard failure)
+    ⊎ ((text : List ℕ) × (status : ℕ) × Asks old asked text status new × IsUndone status failure)
+
+-- why a text that a relay was asked for is not printed: the request was not carried out; what is done next fails; or
+-- that is done, and the text cannot be printed
+abbrev pub LacksText : Request → (Option Conversation → Option Conversation → Type 0)
+    → (Option Conversation → Failure → Option Conversation → Type 0) → Bool → Option Conversation → Failure
+    → Option Conversation → Type 0
+LacksText asked Follows Fails is_json old failure new = LacksDone old asked failure new
+    ⊎ ((text : List ℕ) × (between : Option Conversation) × Asks old asked text 0 between × Fails between failure new)
+    ⊎ ((text : List ℕ) × AsksThen Follows old asked text 0 new × IsUnprinted is_json failure)
 
 -- a relay is asked for a text, then this is done, and the text is printed, as JSON if requested; or that fails, and
 -- nothing is printed before the output fails
 pub record AsksForText {W : Type 0} (contents : W → Option (List ℕ)) (has_failed : W → Bool) (asked : Request)
-    (Follows : Option Conversation → Option Conversation → Type 0) (is_json : Bool) (old : Option Conversation)
+    (Follows : Option Conversation → Option Conversation → Type 0)
+    (Fails : Option Conversation → Failure → Option Conversation → Type 0) (is_json : Bool) (old : Option Conversation)
     (before : W) (result : Result Status Failure) (new : Option Conversation) (after : W) : Type 0 where
   pub printed : IfOk result (λ status. (text : List ℕ) × AsksThen Follows old asked text 0 new
       × Appends (contents before) (contents after) (in_form is_json text) × (status ≡ ends.Done))
-  pub failed : IfErr result (λ failure. (AsksInVain old asked new × IsUnheard failure)
-      ⊎ ((text : List ℕ) × (status : ℕ) × AsksThen Follows old asked text status new
-      × IsUnshown status is_json failure))
+  pub failed : IfErr result (λ failure. LacksText asked Follows Fails is_json old failure new)
   pub silent : IfErr result (λ failure. failure ≢ failures.Output → after ≡ before)
   pub broken : IfErr result (λ failure. failure ≡ failures.Output → has_failed after ≡ true)
 
@@ -249,7 +269,7 @@ ShowsEnd old (Some sci) new = ShowsOwn old sci new
 
 -- why an answer is not the text of the endpoint with this SCI; or there is no memory to compare it
 abbrev pub IsOther : List ℕ → ℕ → List ℕ → Failure → Type 0
-IsOther sci status text failure = ((status ≢ 0) × (failure ≡ failure_in status))
+IsOther sci status text failure = IsUndone status failure
     ⊎ ((status ≡ 0) × ((failure ≡ failures.Memory)
     ⊎ ((¬ Begins (sci_line sci) text) × (failure ≡ failure_of_other text))))
 
@@ -284,16 +304,16 @@ AppliesFile remaining contents has_failed file old before result new after =
 abbrev pub Converses : {F W : Type 0} → (F → Option (List ℕ)) → (W → Option (List ℕ)) → (W → Bool) → Question → Bool
     → Option Conversation → W → Result Status Failure → Option Conversation → W → Type 0
 Converses remaining contents has_failed question.Show is_json old before result new after =
-    AsksForText contents has_failed request.Show SaysNoMore is_json old before result new after
+    AsksForText contents has_failed request.Show SaysNoMore FailsNowhere is_json old before result new after
 Converses remaining contents has_failed question.Counters is_json old before result new after =
-    AsksForText contents has_failed request.Counters SaysNoMore is_json old before result new after
+    AsksForText contents has_failed request.Counters SaysNoMore FailsNowhere is_json old before result new after
 Converses remaining contents has_failed question.Keys is_json old before result new after =
-    AsksForText contents has_failed request.Keys SaysNoMore is_json old before result new after
+    AsksForText contents has_failed request.Keys SaysNoMore FailsNowhere is_json old before result new after
 Converses remaining contents has_failed question.Traffic is_json old before result new after =
-    AsksForText contents has_failed request.Traffic SaysNoMore is_json old before result new after
+    AsksForText contents has_failed request.Traffic SaysNoMore FailsNowhere is_json old before result new after
 Converses remaining contents has_failed question.About is_json old before result new after =
-    AsksForText contents has_failed request.About SaysNoMore is_json old before result new after
+    AsksForText contents has_failed request.About SaysNoMore FailsNowhere is_json old before result new after
 Converses remaining contents has_failed question.Stop is_json old before result new after =
-    AsksForText contents has_failed request.Stop ReadsSome false old before result new after
+    AsksForText contents has_failed request.Stop Outlives FailsToEnd false old before result new after
 Converses remaining contents has_failed (Apply file) is_json old before result new after =
     AppliesFile remaining contents has_failed file.now old before result new after

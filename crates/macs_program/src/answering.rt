@@ -3,10 +3,11 @@
 ghost use Rattle.std.specs.Prelude.{◌≡◌, ◌≢◌, ◌⊎◌, ◌++◌, ◌∷◌, [], IfErr, IfOk, OnOk, true, false};
 ghost use Rattle.std.specs.Io.KnownBytes.{Appends};
 ghost use Rattle.macs_commands.specs.Requests.{request_line};
-ghost use Rattle.macs_control.specs.Asking.{ReadsSome, Sends, SendsSome, conversation_of};
+ghost use Rattle.macs_control.specs.Asking.{Outlives, Sends, SendsSome, conversation_of};
 ghost use Rattle.macs_cli.specs.Objects.{in_form, json_text};
-ghost use Rattle.macs_program.specs.Asking.{Asks, AsksForText, AsksInVain, IsUnheard};
-ghost use Rattle.macs_program.specs.Asking.{IsUnprinted, IsUnshown, SaysNoMore, failure_in};
+ghost use Rattle.macs_program.specs.Asking.{Asks, AsksForText, AsksInVain, FailsNowhere};
+ghost use Rattle.macs_program.specs.Asking.{FailsToEnd, IsUnheard, IsUnprinted, LacksDone};
+ghost use Rattle.macs_program.specs.Asking.{SaysNoMore, failure_in};
 
 use macs_cli::{DiskFault, Failure, Status, Stream, print_json, print_octets};
 use macs_commands::requests::{Request, line_of_request};
@@ -63,6 +64,25 @@ pub fn failure_in(status: u8) -> Failure
     }
 }
 
+/// The relay's answer to a request that it carried out. Fails as `answer_to` does, and as the
+/// status of the answer says.
+fn done_answer<S: Connection>(
+    alloc: Global,
+    asker: &mut Asker<S>,
+    request: &Request,
+) -> Result<Answer, Failure>
+    ensures asked { IfOk result (λ answer. Asks (conversation_of S.link asker.old) request.now
+        answer.text.items 0 (conversation_of S.link asker.new)) }
+    ensures lacks { IfErr result (λ failure. LacksDone (conversation_of S.link asker.old)
+        request.now failure (conversation_of S.link asker.new)) }
+{
+    let answer = answer_to(alloc, asker, request)?;
+    if answer.status != 0 {
+        return Err(failure_in(answer.status));
+    }
+    Ok(answer)
+}
+
 /// Prints the text of an answer as JSON. Fails with `Memory`; with `Control` if the text is not
 /// UTF-8, as a relay's text always is; and with `Output`.
 fn print_as_json<W: Stream>(alloc: Global, text: &[u8], out: &mut W) -> Result<(), Failure>
@@ -98,27 +118,6 @@ fn print_text<W: Stream>(
     print_octets(out, text)
 }
 
-/// Prints the text of an answer, as JSON if requested, if the request was carried out.
-fn print_answer<W: Stream>(
-    alloc: Global,
-    answer: &Answer,
-    is_json: bool,
-    out: &mut W,
-) -> Result<Status, Failure>
-    ensures printed { IfOk result (λ status. (answer.now.status ≡ 0)
-        × Appends (W.contents out.old) (W.contents out.new)
-        (in_form is_json answer.now.text.items) × (status ≡ Status.Done)) }
-    ensures failed { IfErr result (IsUnshown answer.now.status is_json) }
-    ensures silent { IfErr result (λ failure. failure ≢ Failure.Output → out.new ≡ out.old) }
-    ensures broken { IfErr result (λ failure. failure ≡ Failure.Output → W.failed out.new ≡ true) }
-{
-    if answer.status != 0 {
-        return Err(failure_in(answer.status));
-    }
-    print_text(alloc, answer.text.as_slice(), is_json, out)?;
-    Ok(Status::Done)
-}
-
 /// Asks a relay for a text, and prints it, as JSON if requested.
 pub fn ask_once<S: Connection, W: Stream>(
     alloc: Global,
@@ -127,25 +126,28 @@ pub fn ask_once<S: Connection, W: Stream>(
     is_json: bool,
     out: &mut W,
 ) -> Result<Status, Failure>
-    ensures { AsksForText W.contents W.failed request SaysNoMore is_json
+    ensures { AsksForText W.contents W.failed request SaysNoMore FailsNowhere is_json
         (conversation_of S.link asker.old) out.old result (conversation_of S.link asker.new)
         out.new }
 {
-    let answer = answer_to(alloc, asker, &request)?;
-    print_answer(alloc, &answer, is_json, out)
+    let answer = done_answer(alloc, asker, &request)?;
+    print_text(alloc, answer.text.as_slice(), is_json, out)?;
+    Ok(Status::Done)
 }
 
-/// Asks a relay to end, and waits until it has ended: its last line is printed then.
+/// Asks a relay to end, and waits until it has ended the connection, by when its last line is
+/// printed. If it does not, nothing is printed, and this fails with `Control`.
 pub fn ask_stop<S: Connection, W: Stream>(
     alloc: Global,
     asker: &mut Asker<S>,
     out: &mut W,
 ) -> Result<Status, Failure>
-    ensures { AsksForText W.contents W.failed Request.Stop ReadsSome false
+    ensures { AsksForText W.contents W.failed Request.Stop Outlives FailsToEnd false
         (conversation_of S.link asker.old) out.old result (conversation_of S.link asker.new)
         out.new }
 {
-    let answer = answer_to(alloc, asker, &Request::Stop)?;
-    asker.outlast();
-    print_answer(alloc, &answer, false, out)
+    let answer = done_answer(alloc, asker, &Request::Stop)?;
+    asker.outlast()?;
+    print_text(alloc, answer.text.as_slice(), false, out)?;
+    Ok(Status::Done)
 }
