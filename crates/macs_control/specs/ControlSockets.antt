@@ -12,6 +12,7 @@ use Rattle.macs_control.specs.Newcomers.{Greets, TakesIn, is_open}
 use Rattle.macs_control.specs.Places.{IsEmpty, KeepsCounts, PassesSecond, has_room, places_of, seat_in, second_of}
 use Rattle.macs_control.specs.Places.{standing_in}
 use Rattle.macs_control.specs.Seats.{connection_of}
+use Rattle.macs_control.specs.Seconds.{LooksAtClock}
 use Rattle.macs_control.specs.Standings.{has_ended}
 use Rattle.macs_control.specs.declared.control_socket.ControlSocket.{ControlSocket}
 use Rattle.macs_control.specs.declared.place.Place.{Place}
@@ -97,5 +98,6 @@ Serves old (Said client text) new =
     × KeepsCounts old.seats new.seats × (new ≡ record old { seats = new.seats })
 Serves old Slept new = SleepsIf old.has_heard old new
 Serves old (Looked ended) new =
-    ((ended ≡ false) × (new ≡ record old { second = new.second }))
-    ⊎ (PassesSecond old.seats new.seats × (new ≡ record old { seats = new.seats; second = new.second }))
+    ((ended ≡ false) × LooksAtClock old.second.last false new.second.last × (new ≡ record old { second = new.second }))
+    ⊎ (LooksAtClock old.second.last true new.second.last × PassesSecond old.seats new.seats
+    × (new ≡ record old { seats = new.seats; second = new.second }))

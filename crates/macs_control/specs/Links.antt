@@ -1,5 +1,5 @@
 -- Octets received and sent over a connection, and lines made of them.
-use Rattle.std.specs.Prelude.{◌≡◌, ◌≤◌, ◌++◌, ⊤, ℕ, Bool, true, false, List, [], ◌∷◌, take, Option, Some, None}
+use Rattle.std.specs.Prelude.{◌≡◌, ◌≢◌, ◌≤◌, ◌++◌, ⊤, ℕ, Bool, true, false, List, [], ◌∷◌, take, Option, Some, None}
 use Rattle.macs_control.specs.declared.connection.Taken.{Taken}
 use Rattle.macs_control.specs.declared.connection.Taken.TheVariants.{Octets, Nothing, Ended, Gone}
 use Rattle.macs_control.specs.declared.seat.Hearing.{Hearing}
@@ -27,12 +27,13 @@ TakesOctets (Some old) new into Nothing = new ≡ Some old
 TakesOctets (Some old) new into Ended = (old.coming ≡ []) × (new ≡ Some (record old { over = true }))
 TakesOctets (Some old) new into Gone = new ≡ Some old
 
--- octets are sent whole; else some of them, or none
+-- octets are sent whole; else not all of them
 abbrev pub GivesOctets : Option Link → Option Link → List ℕ → Bool → Type 0
 GivesOctets None new octets whole = ⊤
 GivesOctets (Some old) new octets true = new ≡ Some (record old { given = old.given ++ octets })
 GivesOctets (Some old) new octets false =
-    (some rest : List ℕ) × (octets ≡ some ++ rest) × (new ≡ Some (record old { given = old.given ++ some }))
+    (some rest : List ℕ) × (octets ≡ some ++ rest) × (rest ≢ [])
+    × (new ≡ Some (record old { given = old.given ++ some }))
 
 -- Octets that arrived are appended to those that are held; or none, and nothing changes. After the end no more arrive
 abbrev pub Fills : List ℕ → Option Link → Taken → List ℕ → Option Link → Type 0

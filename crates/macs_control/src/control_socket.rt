@@ -183,13 +183,12 @@ impl<'a, T: Files + Clock> ControlSocket<'a, T> {
 }
 
 impl<T: Files + Clock> Clients for ControlSocket<'_, T> {
-    ghost use Rattle.macs_commands.specs.Talks.{Heard as WasHeard, Looked, Said, Slept};
     ghost use Rattle.macs_control.specs.ControlSockets.{Serves};
 
+    ghost does = { Serves };
+
     /// After a sleep that only a wire ended, no client is looked at.
-    fn hear(&mut self) -> Option<Heard>
-        ensures { Serves self.old (WasHeard result) self.new }
-    {
+    fn hear(&mut self) -> Option<Heard> {
         let heard = match &self.listener {
             Some(listener) if !self.is_still => hear(listener, &mut self.seats),
             Some(_) | None => None,
@@ -199,18 +198,14 @@ impl<T: Files + Clock> Clients for ControlSocket<'_, T> {
         heard
     }
 
-    fn say(&mut self, client: Client, text: &[u8])
-        ensures { Serves self.old (Said client text.now) self.new }
-    {
+    fn say(&mut self, client: Client, text: &[u8]) {
         self.seats.say(client, text);
     }
 
     /// If a line was heard last, more may be waiting, and there is no sleep. While a newcomer would
     /// find no place, it is not known whether one is waiting: clients are looked at after each
     /// sleep.
-    fn sleep(&mut self)
-        ensures { Serves self.old Slept self.new }
-    {
+    fn sleep(&mut self) {
         if self.has_heard {
             return;
         }
@@ -218,9 +213,7 @@ impl<T: Files + Clock> Clients for ControlSocket<'_, T> {
         self.is_still = !is_found && self.seats.has_room();
     }
 
-    fn is_ended(&mut self) -> bool
-        ensures { Serves self.old (Looked result) self.new }
-    {
+    fn is_ended(&mut self) -> bool {
         if !self.second.is_over(self.rt) {
             return false;
         }
