@@ -93,8 +93,12 @@ impl OpenFile for CountedFile<'_> {
         self.file.set_len(size)
     }
 
+    /// Only a folder is synced so: what a rename changes is not in the file.
     fn sync_all(&self) -> io::Result<()> {
         self.calls.make()?;
+        if !self.file.metadata()?.is_dir() {
+            return Err(io::Error::from(ErrorKind::NotADirectory));
+        }
         self.file.sync_all()
     }
 
@@ -167,10 +171,15 @@ impl<'a, R: Files<File = File>> Files for Counted<'a, R> {
     fn open_file(&self, how: &OpenOptions, path: &str) -> io::Result<CountedFile<'a>> {
         self.calls.make()?;
         let file = self.system.open_file(how, path)?;
+        let is_new = path.ends_with(".new");
+        // It is its owner's alone from its first moment on.
+        if is_new && file.metadata()?.mode() & 0o077 != 0 {
+            return Err(io::Error::from(ErrorKind::PermissionDenied));
+        }
         Ok(CountedFile {
             file,
             calls: self.calls,
-            is_strange: Cell::new(path.ends_with(".new")),
+            is_strange: Cell::new(is_new),
         })
     }
 
