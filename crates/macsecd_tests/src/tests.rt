@@ -2,6 +2,9 @@
 //! frames and captures come from is said where they are.
 
 mod applying;
+mod asking;
+mod attending;
+mod beside;
 mod blank_files;
 mod broken_streams;
 mod captures;

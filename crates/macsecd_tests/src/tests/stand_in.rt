@@ -1,6 +1,8 @@
 //! A stand-in for the system: it hands on to the system's own files and sockets, but for the file
-//! of one path, of which something fails, and for wires at which a frame waits.
+//! of one path, of which something fails, for wires at which a frame waits, and for what goes on
+//! beside a relay.
 
+use super::beside::Beside;
 use super::peers::Peers;
 use macs_disk::DiskFile;
 use macs_program::CaptureFile;
@@ -10,6 +12,9 @@ use std::fs::{File, Metadata, OpenFile, OpenOptions, Permissions};
 use std::io;
 use std::io::{ErrorKind, Read, Seek, SeekFrom, Write};
 use std::net::{Net, SocketAddr, UdpSocket};
+use std::os::fd::{BorrowedFd, OwnedFd};
+use std::os::unix::net;
+use std::os::unix::net::UnixStream;
 use std::path::PathBuf;
 use std::random::RandomSource;
 use std::rt::{Clock, Env, Files};
@@ -174,13 +179,15 @@ impl CaptureFile for BrokenFile {
     }
 }
 
-/// The system, but for the file of one path, and with peers of the wires where there are any.
+/// The system, but for the file of one path, with peers of the wires where there are any, and with
+/// what goes on beside a relay, if anything does.
 #[derive(Clone, Copy)]
 pub struct StandIn<'a, R> {
     pub system: &'a R,
     pub path: &'static str,
     pub broken: Broken,
     pub peers: Option<&'a Peers>,
+    pub beside: Option<&'a Beside>,
 }
 
 impl<R: Files<File = File>> Files for StandIn<'_, R> {
@@ -240,6 +247,9 @@ impl<R: Files<File = File>> Files for StandIn<'_, R> {
     }
 
     fn remove_file(&self, path: &str) -> io::Result<()> {
+        if let Some(beside) = self.beside {
+            beside.look_at_removal(self.system, path);
+        }
         self.system.remove_file(path)
     }
 
@@ -262,10 +272,19 @@ impl<R: Files<File = File>> Files for StandIn<'_, R> {
     fn lchown(&self, path: &str, user: Option<u32>, group: Option<u32>) -> io::Result<()> {
         self.system.lchown(path, user, group)
     }
+
+    fn bind_unix(&self, socket: BorrowedFd<'_>, address: &net::SocketAddr) -> io::Result<()> {
+        self.system.bind_unix(socket, address)
+    }
 }
 
-impl<R: Clock> Clock for StandIn<'_, R> {
+/// An attended relay asks for the time in each quiet turn.
+impl<R: Clock + Files> Clock for StandIn<'_, R> {
     fn monotonic(&self) -> io::Result<Duration> {
+        if let Some(beside) = self.beside {
+            beside.look(self.system, "turn");
+            beside.go_on();
+        }
         self.system.monotonic()
     }
 
@@ -274,13 +293,29 @@ impl<R: Clock> Clock for StandIn<'_, R> {
     }
 }
 
-impl<R: Env> Env for StandIn<'_, R> {
+impl<R: Env + Files + Net> Env for StandIn<'_, R> {
     fn arg(&self, i: usize, buf: &mut [u8]) -> Result<usize, FillError> {
         self.system.arg(i, buf)
     }
 
+    /// An attended relay asks for this one name, once everything is bound.
     fn var(&self, name: &str, buf: &mut [u8]) -> Result<usize, FillError> {
-        self.system.var(name, buf)
+        match self.beside {
+            Some(beside) => {
+                beside.look(self.system, "bound");
+                beside.come(self.system);
+                let name = beside.parent().as_bytes();
+                if name.is_empty() {
+                    return Err(FillError::NotPresent);
+                }
+                let Some(front) = buf.get_mut(..name.len()) else {
+                    return Err(FillError::TooLong);
+                };
+                front.copy_from_slice(name);
+                Ok(name.len())
+            }
+            None => self.system.var(name, buf),
+        }
     }
 
     fn var_at(&self, i: usize, buf: &mut [u8]) -> Result<usize, FillError> {
@@ -294,7 +329,7 @@ impl<R: RandomSource> RandomSource for StandIn<'_, R> {
     }
 }
 
-impl<R: Net> Net for StandIn<'_, R> {
+impl<R: Net + Files> Net for StandIn<'_, R> {
     type Stream = R::Stream;
 
     type Listener = R::Listener;
@@ -308,9 +343,20 @@ impl<R: Net> Net for StandIn<'_, R> {
     }
 
     fn bind_udp(&self, at: SocketAddr) -> io::Result<UdpSocket> {
+        if let Some(beside) = self.beside {
+            beside.look(self.system, "wire");
+        }
         match self.peers {
             Some(peers) => peers.bind(self.system, at),
             None => self.system.bind_udp(at),
         }
+    }
+
+    fn connect_unix(&self, at: &net::SocketAddr) -> io::Result<UnixStream> {
+        self.system.connect_unix(at)
+    }
+
+    fn unix_socket(&self) -> io::Result<OwnedFd> {
+        self.system.unix_socket()
     }
 }

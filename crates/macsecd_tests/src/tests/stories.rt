@@ -1,5 +1,6 @@
 //! Stories of runs over files in a folder of their own.
 
+mod attended;
 mod files;
 mod relays;
 mod runs;
@@ -7,6 +8,7 @@ mod runs;
 use super::expect;
 use super::stand_in::Broken;
 use crate::Outcome;
+pub use attended::{Attended, Client, Told};
 pub use relays::{Frames, Relayed};
 use std::alloc::Global;
 use std::fs;
@@ -29,6 +31,8 @@ pub enum Step {
     Closing(u32, u32, &'static [&'static str]),
     /// Relays a frame each way.
     Relay(Relayed),
+    /// Relays beside clients and a parent.
+    Attend(Attended),
     /// Runs these words while another open of the file of this path has claimed it: for itself
     /// alone, or along with other readers.
     Claimed(&'static str, &'static [&'static str], Outcome),
@@ -82,6 +86,7 @@ fn take(
             Ok(())
         }
         Step::Relay(relayed) => relays::relay(rt, alloc, relayed),
+        Step::Attend(attended) => attended::attend(rt, alloc, attended),
         _ => take_beside(rt, alloc, step),
     }
 }

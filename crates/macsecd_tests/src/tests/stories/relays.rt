@@ -97,6 +97,7 @@ fn expect_relay<'a>(
         path: "",
         broken: Broken::Nothing,
         peers: Some(peers),
+        beside: None,
     };
     expect_over(rt, &system, alloc, words, outcome);
 }

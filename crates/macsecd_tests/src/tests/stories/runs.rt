@@ -99,6 +99,7 @@ pub fn expect_failing(
         path,
         broken,
         peers: None,
+        beside: None,
     };
     expect_over(rt, &system, alloc, words, outcome);
 }
