@@ -5,14 +5,25 @@ use macs_cli::WriterStream;
 use macs_offline::key::{SystemOctets, print_key};
 use macs_program::run::report;
 use std::alloc::Global;
+use std::cell::Cell;
 use std::io;
 use std::process::Abort;
 use std::random::RandomSource;
 
-/// A source that counts: 0, 1 and so on; or one that gives nothing.
-#[derive(Clone, Copy)]
+/// A source that counts, from 0 on, through all its octets; or one that gives nothing.
+#[derive(Drop)]
 struct Counting {
     is_broken: bool,
+    next: Cell<u8>,
+}
+
+impl Counting {
+    fn new(is_broken: bool) -> Counting {
+        Counting {
+            is_broken,
+            next: Cell::new(0),
+        }
+    }
 }
 
 impl RandomSource for Counting {
@@ -20,36 +31,38 @@ impl RandomSource for Counting {
         if self.is_broken {
             return Err(io::Error::from(io::ErrorKind::Other));
         }
-        let mut next: u8 = 0;
+        let mut next = self.next.get();
         for octet in buf.iter_mut() {
             *octet = next;
             next = next.wrapping_add(1);
         }
+        self.next.set(next);
         Ok(())
     }
 }
 
-/// Asserts what is printed of a key from a source that counts.
-fn expect_key(rt: &impl Abort, alloc: Global, is_long: bool, wanted: &str) {
-    let source = Counting { is_broken: false };
+/// Asserts what is printed of a key from a source that counts, and how many octets it takes.
+fn expect_key(rt: &impl Abort, alloc: Global, is_long: bool, taken: u8, wanted: &str) {
+    let source = Counting::new(false);
     let mut octets = SystemOctets { rt: &source };
     let mut out = Vec::new(alloc);
     let done = print_key(&mut octets, is_long, &mut WriterStream::new(&mut out));
     assert!(rt; done.is_ok());
     assert_eq!(rt; out.as_slice(), wanted.as_bytes());
+    assert!(rt; source.next.get() == taken);
 }
 
 #[test]
 fn digits_are_those_of_the_octets(rt: HostRuntime) {
     let short = "000102030405060708090a0b0c0d0e0f\n";
     let long = "000102030405060708090a0b0c0d0e0f101112131415161718191a1b1c1d1e1f\n";
-    expect_key(&rt, rt.alloc(), false, short);
-    expect_key(&rt, rt.alloc(), true, long);
+    expect_key(&rt, rt.alloc(), false, 16, short);
+    expect_key(&rt, rt.alloc(), true, 32, long);
 }
 
 #[test]
 fn a_source_that_fails_is_said(rt: HostRuntime) {
-    let source = Counting { is_broken: true };
+    let source = Counting::new(true);
     let mut octets = SystemOctets { rt: &source };
     let mut out = Vec::new(rt.alloc());
     let mut err = Vec::new(rt.alloc());
