@@ -1,5 +1,5 @@
 -- Lines that are cut off at their ends.
-use Rattle.std.proofs.Common.{◌≡◌, ◌≢◌, ◌<◌, ◌≤◌, ◌+◌, ◌-◌, ◌==◌, ◌++◌, ℕ, suc, Bool, true, false, if◌then◌else◌}
+use Rattle.std.proofs.Common.{◌≡◌, ◌<◌, ◌≤◌, ◌+◌, ◌-◌, ◌==◌, ◌++◌, ℕ, suc, Bool, true, false, if◌then◌else◌}
 use Rattle.std.proofs.Common.{nat_lt, List, ◌∷◌, length}
 use Rattle.std.proofs.Common.{get_or, take, drop, Option, Some, None, IfSome, length-drop, length-take, refl, sym, ap}
 use Rattle.std.proofs.Common.{◌∙◌, arith}

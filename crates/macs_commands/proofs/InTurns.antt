@@ -1,5 +1,5 @@
 -- Things that happen to a value, one after another.
-use Rattle.std.proofs.Common.{◌≡◌, ◌++◌, List, [], ◌∷◌, refl, subst}
+use Rattle.std.proofs.Common.{◌++◌, List, [], ◌∷◌, refl, subst}
 use Rattle.macs_commands.specs.InTurn.{InTurn}
 
 module _ {S A : Type 0} (Does : S → A → S → Type 0) where

@@ -25,7 +25,8 @@ use Rattle.macs_commands.specs.CommandLines.{IsTold, command_line, fields_of}
 use Rattle.macs_commands.specs.Words.{word_of, word_text}
 use Rattle.macs_commands.specs.Requests.{IsAsked, request_line}
 use Rattle.macs_commands.specs.declared.requests.request.Request.{Request}
-use Rattle.macs_commands.specs.declared.requests.request.Request.TheVariants.{About, Apply, Counters, Keys, Show, Stop, Traffic}
+use Rattle.macs_commands.specs.declared.requests.request.Request.TheVariants.{About, Apply, Counters, Keys, Show, Stop}
+use Rattle.macs_commands.specs.declared.requests.request.Request.TheVariants.{Traffic}
 use Rattle.macs_commands.proofs.KeyDigits.{decoded, octets_are}
 
 literal : (text : List ℕ) (n most : ℕ) → length text ≡ n → n ≤ most → length text ≤ most
@@ -122,7 +123,10 @@ fields_short (RxRemove sci an) told =
 
 command_short : (command : Command) → IsTold command → length (command_line command) ≤ 255
 command_short command told =
-    omega (arith, both (word_text (word_of command)) (fields_of command) 12 120 (word_short command) (fields_short command told))
+    omega (
+      arith,
+      both (word_text (word_of command)) (fields_of command) 12 120 (word_short command) (fields_short command told),
+    )
 
 -- the line of a request
 request_within : (request : Request) → IsAsked request → length (request_line request) ≤ 255

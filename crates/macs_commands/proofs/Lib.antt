@@ -21,3 +21,5 @@ mod Whole
 mod Lengths
 mod Feeds
 pub mod InTurns
+pub mod Written
+pub mod Lined

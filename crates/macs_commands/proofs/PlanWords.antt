@@ -1,9 +1,6 @@
 -- All that is to be drawn of the words on plans.
-use Rattle.std.proofs.Common.{◌≡◌, ◌++◌, ℕ, [], ◌∷◌}
-use Rattle.std.proofs.Common.{if◌then◌else◌}
 use Rattle.macs_aes.specs.Keys.{HasItsLength}
 use Rattle.macs_commands.specs.Planning.{own_key}
-use Rattle.macs_commands.specs.Reading.{◌>>=◌}
 use Rattle.macs_commands.specs.declared.links.link.End.{End}
 use Rattle.macs_commands.specs.declared.links.link.End.TheVariants.{Left, Right}
 use Rattle.macs_commands.specs.declared.links.link.KeyPair.{KeyPair}

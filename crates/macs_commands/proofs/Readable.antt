@@ -39,4 +39,5 @@ reads (RxInstall sci an sak start offset) is key at =
       le-leb start 4294967295 (omega (arith, is.3)),
       le-leb offset 255 (omega (arith, is.4)),
     ) refl
-reads (RxRemove sci an) is key at = rw (octets_read 8 sci (encode_lower sci) is.0 refl, le-leb an 3 (omega (arith, is.1))) refl
+reads (RxRemove sci an) is key at =
+    rw (octets_read 8 sci (encode_lower sci) is.0 refl, le-leb an 3 (omega (arith, is.1))) refl

@@ -53,7 +53,8 @@ OfWord words.TxUse S = (an : ℕ) → S (TxUse an)
 OfWord words.TxRemove S = (an : ℕ) → S (TxRemove an)
 OfWord words.RxAdd S = (sci : List ℕ) → S (RxAdd sci)
 OfWord words.RxDrop S = (sci : List ℕ) → S (RxDrop sci)
-OfWord words.RxInstall S = (sci : List ℕ) (an : ℕ) (key : Key) (start offset : ℕ) → S (RxInstall sci an key start offset)
+OfWord words.RxInstall S = (sci : List ℕ) (an : ℕ) (key : Key) (start offset : ℕ)
+    → S (RxInstall sci an key start offset)
 OfWord words.RxRemove S = (sci : List ℕ) (an : ℕ) → S (RxRemove sci an)
 
 for_its_word : (S : Command → Type 0) (command : Command) → OfWord (word_of command) S → S command

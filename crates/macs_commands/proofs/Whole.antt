@@ -9,7 +9,8 @@ use Rattle.macs_config.specs.declared.command.Command.TheVariants.{RxAdd, RxDrop
 use Rattle.macs_commands.specs.CommandLines.{IsTold, command_line}
 use Rattle.macs_commands.specs.Requests.{IsAsked, plain_request, request_line}
 use Rattle.macs_commands.specs.declared.requests.request.Request.{Request}
-use Rattle.macs_commands.specs.declared.requests.request.Request.TheVariants.{About, Apply, Counters, Keys, Show, Stop, Traffic}
+use Rattle.macs_commands.specs.declared.requests.request.Request.TheVariants.{About, Apply, Counters, Keys, Show, Stop}
+use Rattle.macs_commands.specs.declared.requests.request.Request.TheVariants.{Traffic}
 use Rattle.macs_commands.proofs.Values.{some_same}
 
 -- ---- one form

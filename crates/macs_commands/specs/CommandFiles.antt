@@ -1,7 +1,7 @@
 -- The commands of a whole command file, or its first fault.
-use Rattle.std.specs.Prelude.{◌+◌, ◌==◌, ℕ, suc, codes, if◌then◌else◌, Bool, true, false, List, [], ◌∷◌, Option, Some}
+use Rattle.std.specs.Prelude.{◌+◌, ◌==◌, ℕ, codes, if◌then◌else◌, List, [], ◌∷◌, Option, Some}
 use Rattle.std.specs.Prelude.{None, Result, Ok, Err}
-use Rattle.toml.specs.Data.{Data, Items, Members, array, get_member, item, member, no_items, no_members, table}
+use Rattle.toml.specs.Data.{Data, Items, Members, array, get_member, item, no_items, table}
 use Rattle.macs_config.specs.declared.command.Command.{Command}
 use Rattle.macs_commands.specs.Lines.{command_of, key_beside, keys_of, word_in}
 use Rattle.macs_commands.specs.Tables.{are_tables, count}

@@ -15,3 +15,4 @@ pub mod Requests
 pub mod Inboxes
 pub mod InTurn
 pub mod Talks
+pub mod Papers

@@ -1,13 +1,11 @@
 -- The link in a file, or the file's first fault.
 use Rattle.std.specs.Prelude.{◌+◌, ◌==◌, ◌||◌, ◌&&◌, not, ℕ, nat_lt, codes, if◌then◌else◌, Bool, false, List, [], ◌∷◌}
-use Rattle.std.specs.Prelude.{Option, Some, None, option_and_then, Result, Ok, Err}
+use Rattle.std.specs.Prelude.{Option, Some, None, Result, Ok, Err}
 use Rattle.std.specs.Str.{bytes_eq}
-use Rattle.toml.specs.Data.{Items, Members, as_array, as_table, get_member, item, no_items, table}
+use Rattle.toml.specs.Data.{Items, Members, item, no_items, table}
 use Rattle.macs_aes.specs.Keys.{octets_of_key}
-use Rattle.macs_aes.specs.declared.keys.Key.{Key}
 use Rattle.macs_config.specs.Config.{are_distinct}
 use Rattle.macs_commands.specs.Tables.{an_in, are_tables, count, items_at, key_at, sci_in, table_at}
-use Rattle.macs_commands.specs.Digits.{key_of}
 use Rattle.macs_commands.specs.declared.links.link.KeyPair.{KeyPair}
 use Rattle.macs_commands.specs.declared.links.link.Link.{Link}
 use Rattle.macs_commands.specs.declared.links.plan_fault.Place.{Place}

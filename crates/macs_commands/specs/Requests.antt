@@ -5,7 +5,8 @@ use Rattle.std.specs.Str.{bytes_eq}
 use Rattle.macs_commands.specs.Cutting.{spaced}
 use Rattle.macs_commands.specs.CommandLines.{IsTold, command_line}
 use Rattle.macs_commands.specs.declared.requests.request.Request.{Request}
-use Rattle.macs_commands.specs.declared.requests.request.Request.TheVariants.{About, Apply, Counters, Keys, Show, Stop, Traffic}
+use Rattle.macs_commands.specs.declared.requests.request.Request.TheVariants.{About, Apply, Counters, Keys, Show, Stop}
+use Rattle.macs_commands.specs.declared.requests.request.Request.TheVariants.{Traffic}
 
 -- a request whose command, if it has one, is in the ranges of its types
 abbrev pub IsAsked : Request → Type 0

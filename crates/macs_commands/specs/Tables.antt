@@ -3,7 +3,8 @@
 use Rattle.std.specs.Prelude.{◌-◌, ◌^◌, ℕ, nat_le, pos, suc, codes, if◌then◌else◌, Bool, true, false, List, Option}
 use Rattle.std.specs.Prelude.{Some, None}
 use Rattle.std.specs.Prelude.{option_and_then}
-use Rattle.toml.specs.Data.{Data, Items, Members, as_array, as_bool, as_str, as_table, get_member, integer, item, member}
+use Rattle.toml.specs.Data.{Data, Items, Members, as_array, as_bool, as_str, as_table, get_member, integer, item}
+use Rattle.toml.specs.Data.{member}
 use Rattle.toml.specs.Data.{no_items, no_members, table}
 use Rattle.macs_aes.specs.declared.keys.Key.{Key}
 use Rattle.macs_config.specs.declared.command.SciMode.{SciMode}

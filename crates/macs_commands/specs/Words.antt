@@ -9,7 +9,8 @@ use Rattle.macs_config.specs.declared.command.SciMode.TheVariants.{Explicit, End
 use Rattle.macs_config.specs.declared.command.Validate.{Validate}
 use Rattle.macs_config.specs.declared.command.Validate.TheVariants.{Strict, Check}
 use Rattle.macs_commands.specs.declared.command_word.CommandWord.{CommandWord}
-use Rattle.macs_commands.specs.declared.command_word.CommandWord.TheVariants.{SetValidate, SetReplay, SetSciMode, TxInstall}
+use Rattle.macs_commands.specs.declared.command_word.CommandWord.TheVariants.{SetValidate, SetReplay, SetSciMode}
+use Rattle.macs_commands.specs.declared.command_word.CommandWord.TheVariants.{TxInstall}
 use Rattle.macs_commands.specs.declared.command_word.CommandWord.TheVariants.{TxUse, TxRemove, RxAdd, RxDrop, RxInstall}
 use Rattle.macs_commands.specs.declared.command_word.CommandWord.TheVariants.{RxRemove}
 

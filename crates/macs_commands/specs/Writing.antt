@@ -35,20 +35,25 @@ digits octets = string (encode_lower octets)
 -- the table of a command, its keys in the order of their octets
 abbrev pub table_of : Command → Members
 table_of (SetValidate mode) =
-    member (codes "do") (string (word_text word.SetValidate)) (member (codes "mode") (string (validate_word mode)) no_members)
+    member (codes "do") (string (word_text word.SetValidate))
+    (member (codes "mode") (string (validate_word mode)) no_members)
 table_of (SetReplay on window) =
     member (codes "do") (string (word_text word.SetReplay)) (member (codes "on") (boolean on)
     (member (codes "window") (number window) no_members))
 table_of (SetSciMode mode) =
-    member (codes "do") (string (word_text word.SetSciMode)) (member (codes "mode") (string (sci_mode_word mode)) no_members)
+    member (codes "do") (string (word_text word.SetSciMode))
+    (member (codes "mode") (string (sci_mode_word mode)) no_members)
 table_of (TxInstall an key start confidential offset) =
     member (codes "an") (number an) (member (codes "confidential") (boolean confidential)
     (member (codes "do") (string (word_text word.TxInstall)) (member (codes "key") (digits (octets_of_key key))
     (member (codes "offset") (number offset) (member (codes "start") (number start) no_members)))))
 table_of (TxUse an) = member (codes "an") (number an) (member (codes "do") (string (word_text word.TxUse)) no_members)
-table_of (TxRemove an) = member (codes "an") (number an) (member (codes "do") (string (word_text word.TxRemove)) no_members)
-table_of (RxAdd sci) = member (codes "do") (string (word_text word.RxAdd)) (member (codes "sci") (digits sci) no_members)
-table_of (RxDrop sci) = member (codes "do") (string (word_text word.RxDrop)) (member (codes "sci") (digits sci) no_members)
+table_of (TxRemove an) =
+    member (codes "an") (number an) (member (codes "do") (string (word_text word.TxRemove)) no_members)
+table_of (RxAdd sci) =
+    member (codes "do") (string (word_text word.RxAdd)) (member (codes "sci") (digits sci) no_members)
+table_of (RxDrop sci) =
+    member (codes "do") (string (word_text word.RxDrop)) (member (codes "sci") (digits sci) no_members)
 table_of (RxInstall sci an key start offset) =
     member (codes "an") (number an) (member (codes "do") (string (word_text word.RxInstall))
     (member (codes "key") (digits (octets_of_key key)) (member (codes "offset") (number offset)

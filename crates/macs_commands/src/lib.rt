@@ -6,6 +6,7 @@ mod command_word;
 mod files;
 pub mod links;
 mod modes;
+mod paper;
 pub mod requests;
 pub mod secrets;
 mod tables;
@@ -16,4 +17,5 @@ pub use files::{
     commands_of, extra_key,
 };
 pub use modes::{replay_word, sci_mode_word, validate_word};
+pub use paper::Paper;
 pub use tables::value;

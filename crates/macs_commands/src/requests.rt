@@ -14,6 +14,5 @@ mod request;
 pub use clients::{Client, Clients, Heard};
 pub use ends::{end_of_line, line_of_end};
 pub use inbox::{Inbox, Line, MAX_LINE};
-pub use lines::{command_of_line, line_of_command};
 pub use metrics::{Metrics, NoMetrics};
-pub use request::{Request, line_of_request, request_of_line};
+pub use request::{Request, request_of_line, write_request};

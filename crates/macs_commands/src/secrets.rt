@@ -7,4 +7,4 @@ mod wiping;
 
 pub use digits::{digits_of, key_of, octets, sci_of, write_digits};
 pub use secret_table::SecretTable;
-pub use wiping::{SecretOctets, SecretText, text_of, wipe};
+pub use wiping::{SecretOctets, SecretText, wipe};

@@ -1,5 +1,5 @@
 -- Calls that follow each other.
-use Rattle.std.proofs.Common.{◌≡◌, ◌∙◌, ◌⊎◌, inl, inr, ℕ, Bool, true, false, List, [], ◌∷◌, ◌++◌, Option, Some, None}
+use Rattle.std.proofs.Common.{◌≡◌, ◌∙◌, inl, inr, ℕ, Bool, true, false, List, [], ◌∷◌, ◌++◌, Option, Some, None}
 use Rattle.std.proofs.Common.{refl, ap}
 use Rattle.std.proofs.lemmas.List.{append_assoc}
 use Rattle.macs_control.specs.Binding.{Binds, Clears, IsNotNamed, Makes, Reaches}

@@ -1,7 +1,8 @@
 -- Where something stands in a list.
 use Rattle.std.proofs.Common.{◌≡◌, ◌∙◌, ◌+◌, ◌<◌, ◌≤◌, zero, suc, ℕ, Bool, true, false, not, cond, List, [], ◌∷◌, ◌++◌}
 use Rattle.std.proofs.Common.{arith, refl, sym, ap, length, take, drop, set, get_or, Option, Some, None}
-use Rattle.std.proofs.lemmas.List.{append-nil, append_assoc, drop_at, drop_more, get_or-set_same, length-set, length-take-le, take-append-drop, length_push, set_at, take_at}
+use Rattle.std.proofs.lemmas.List.{append-nil, append_assoc, drop_at, drop_more, get_or-set_same, length-set}
+use Rattle.std.proofs.lemmas.List.{length-take-le, take-append-drop, length_push, set_at, take_at}
 use Rattle.std.proofs.lemmas.Bool.Decides.{nat_tests}
 use Rattle.std.specs.List.{list_any, position_or_len, remove}
 use Rattle.std.specs.Prelude.{◌||◌, nat_lt, position, slice_get}
@@ -123,7 +124,8 @@ removed {X} xs n = ap (λ (k : ℕ). take n xs ++ drop k xs) (let e : suc n ≡ 
 -- cut at a place
 pub cut-at : {X : Type 0} (xs : List X) (n : ℕ) (x : X) → n < length xs → x ≡ get_or xs n x
     → xs ≡ take n xs ++ x ∷ drop (n + 1) xs
-cut-at {X} xs n x within is = sym (take-append-drop n xs) ∙ ap (λ (l : List X). take n xs ++ l) (drop_more xs n x within)
+cut-at {X} xs n x within is = sym (take-append-drop n xs)
+    ∙ ap (λ (l : List X). take n xs ++ l) (drop_more xs n x within)
     ∙ ap (λ (y : X). take n xs ++ y ∷ drop (n + 1) xs) (sym is)
 
 -- written, or written and taken out

@@ -207,7 +207,8 @@ same-client one other is =
     ap (λ (n : ℕ). let it : Client = record { 0 = n } in it) same
 
 -- a text was sent to the client at a place, and what is left
-pub said-to : {S : Type 0} (link : S → Option Link) (now : ℕ) (client : Client) (text : List ℕ) (old new : List (Place S))
+pub said-to : {S : Type 0} (link : S → Option Link) (now : ℕ) (client : Client) (text : List ℕ)
+    (old new : List (Place S))
     (at : ℕ) → (p : Parts (is_of client) old at) → (place said : Place S) (keeps : Bool) → place ≡ get_or old at place
     → SaysTo link now text place said keeps → new ≡ p.front ++ (if keeps then said ∷ [] else []) ++ p.rest
     → Says link now client text old new

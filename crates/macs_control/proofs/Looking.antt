@@ -36,7 +36,8 @@ pub looks-in-time : {C : Type 0} (Does : C → Talk → C → Type 0) (is was_qu
     → known_full ≡ full → known ≡ reports → InTurn Does before (sleep_after was_quiet) between
     → (more : List Talk) × Looks known_full known old more order new × InTurn Does between more after
     → (talk : List Talk) × LooksIf is was_quiet full reports old talk order new × InTurn Does before talk after
-looks-in-time Does is was_quiet full known_full reports known old new order before between after time same_full same slept
+looks-in-time Does is was_quiet full known_full reports known old new order before between after time
+    same_full same slept
     looked = (
       sleep_after was_quiet ++ looked.0,
       rw time (

@@ -2,7 +2,7 @@
 use Rattle.std.proofs.Common.{◌≡◌, ◌++◌, inl, inr, ℕ, Bool, true, false, List, [], ◌∷◌, map, Option, Some, Result, Ok}
 use Rattle.std.proofs.Common.{Err}
 use Rattle.std.proofs.Common.{refl, sym, ap, ◌∙◌, append-nil, append_assoc}
-use Rattle.std.specs.Prelude.{flat_map}
+use Rattle.std.specs.Prelude.{flat_map, if◌then◌else◌, length, nat_le}
 use Rattle.std.proofs.lemmas.Bool.{eq-eqb}
 use Rattle.std.proofs.lemmas.List.{map-append}
 use Rattle.macs_disk.specs.Disk.{Disk}
@@ -18,16 +18,15 @@ use Rattle.macs_edge.specs.declared.attending.Order.{Order}
 use Rattle.macs_edge.specs.declared.attending.Order.TheVariants.{Go, Submit, End}
 use Rattle.macs_edge.proofs.AttendedFlows.{attended-flows}
 use Rattle.macs_config.specs.declared.command.Command.{Command}
-use Rattle.macs_commands.specs.Talks.{Talk}
+use Rattle.macs_commands.specs.Talks.{Talk, Said}
 use Rattle.macs_commands.specs.declared.requests.clients.Client.{Client}
 use Rattle.macs_commands.specs.declared.requests.clients.Heard.{Heard as HeardLine}
 use Rattle.macs_commands.specs.declared.requests.request.Request.{Request}
 use Rattle.macs_commands.specs.declared.requests.request.Request.TheVariants.{About, Apply, Counters, Keys, Show, Stop}
 use Rattle.macs_commands.specs.declared.requests.request.Request.TheVariants.{Traffic}
 use Rattle.macs_control.specs.Listening.{Answers, HandsIn, Listens, ListensUnless, Looks, LooksIf, Reads, Reports}
-use Rattle.macs_control.specs.Listening.{Tells}
-use Rattle.macs_control.specs.Listening.{said_to, sleep_after}
-use Rattle.macs_control.specs.Replies.{ended_text}
+use Rattle.macs_control.specs.Listening.{report_room, said_to, sleep_after, told}
+use Rattle.macs_control.specs.Replies.{end_text, ended_text}
 use Rattle.macs_control.specs.Serving.{ClientsAreTold, DeskState, Speaks, SpeaksAt, Told, asking_after, ended_in}
 use Rattle.macs_control.specs.Serving.{endings, givers, saying}
 use Rattle.macs_control.specs.Unanswered.{client_of, is_full, joined, without}
@@ -37,10 +36,15 @@ use Rattle.macs_control.proofs.Queued.{Queues, attended-queue, with_taken}
 
 -- ---- who asks
 
-tells-asks : (client asked : Client) (text : List ℕ) (talk : List Talk) → Tells client text talk
-    → asking_after asked talk ≡ asked
-tells-asks client asked text talk (inl is) = ap (asking_after asked) is
-tells-asks client asked text talk (inr is) = ap (asking_after asked) is
+said-asks : (fits : Bool) (client asked : Client) (text : List ℕ)
+    → asking_after asked
+    (if fits then Said client text ∷ Said client (end_text 0) ∷ [] else Said client (end_text 5) ∷ [])
+    ≡ asked
+said-asks true client asked text = refl
+said-asks false client asked text = refl
+
+told-asks : (client asked : Client) (text : List ℕ) → asking_after asked (told client text) ≡ asked
+told-asks client asked text = said-asks (nat_le (length text) report_room) client asked text
 
 hands-asks : (client asked : Client) (command : Command) (noted : Result (Unit {0}) NoteFault) (talk : List Talk)
     (order : Order) → HandsIn client command noted talk order → asking_after asked talk ≡ asked
@@ -49,11 +53,16 @@ hands-asks client asked command (Err fault) talk order is = ap (asking_after ask
 
 answers-asks : (reports : Reports) (client asked : Client) (request : Request) (talk : List Talk) (order : Order)
     → Answers reports client request talk order → asking_after asked talk ≡ asked
-answers-asks reports client asked Show talk order is = tells-asks client asked reports.shown talk is.0
-answers-asks reports client asked Counters talk order is = tells-asks client asked (reports.counted is.0) talk is.2
-answers-asks reports client asked Keys talk order is = tells-asks client asked reports.keys talk is.0
-answers-asks reports client asked Traffic talk order is = tells-asks client asked reports.traffic talk is.0
-answers-asks reports client asked About talk order is = tells-asks client asked reports.about talk is.0
+answers-asks reports client asked Show talk order is =
+    ap (asking_after asked) is.0 ∙ told-asks client asked reports.shown
+answers-asks reports client asked Counters talk order is =
+    ap (asking_after asked) is.2 ∙ told-asks client asked (reports.counted is.0)
+answers-asks reports client asked Keys talk order is =
+    ap (asking_after asked) is.0 ∙ told-asks client asked reports.keys
+answers-asks reports client asked Traffic talk order is =
+    ap (asking_after asked) is.0 ∙ told-asks client asked reports.traffic
+answers-asks reports client asked About talk order is =
+    ap (asking_after asked) is.0 ∙ told-asks client asked reports.about
 answers-asks reports client asked Stop talk order is = ap (asking_after asked) is.0
 answers-asks reports client asked (Apply command) talk order is =
     hands-asks client asked command is.0 talk order is.2
@@ -62,8 +71,7 @@ reads-asks : (reports : Reports) (heard : HeardLine) (asked : Client) (talk : Li
     → Reads reports heard talk order → asking_after asked talk ≡ asked
 reads-asks reports heard asked talk order (inl (request, is, answers)) =
     answers-asks reports heard.client asked request talk order answers
-reads-asks reports heard asked talk order (inr (inl (none, is, go))) = ap (asking_after asked) is
-reads-asks reports heard asked talk order (inr (inr (is, go))) = ap (asking_after asked) is
+reads-asks reports heard asked talk order (inr (none, is, go)) = ap (asking_after asked) is
 
 listens-asks : (reports : Reports) (old new : Client) (talk : List Talk) (order : Order)
     → Listens reports old talk order new → new ≡ asking_after old talk

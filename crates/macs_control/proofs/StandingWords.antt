@@ -1,10 +1,10 @@
 -- All that is to be drawn of the words on how a client stands with its relay.
-use Rattle.std.proofs.Common.{◌≡◌, ◌∙◌, ◌≤◌, ◌<◌, ◌+◌, ◌-◌, ℕ, Bool, true, false, not, cond, ◌∷◌, ◌++◌, List, []}
+use Rattle.std.proofs.Common.{◌≡◌, ◌∙◌, ◌≤◌, ◌<◌, ℕ, Bool, true, false, not, cond, ◌∷◌, ◌++◌, List}
 use Rattle.std.proofs.Common.{length}
 use Rattle.std.proofs.Common.{arith, refl, ap}
 use Rattle.std.proofs.lemmas.Bool.Decides.{nat_tests}
 use Rattle.std.specs.List.{list_any, position_or_len, remove}
-use Rattle.std.specs.Prelude.{◌==◌, ◌&&◌, ◌||◌, if◌then◌else◌, is_some, nat_lt, position}
+use Rattle.std.specs.Prelude.{◌||◌, if◌then◌else◌, is_some, nat_lt, position}
 use Rattle.macs_control.proofs.Placed.{at-first, at-none, spared}
 use Rattle.macs_control.specs.Places.{gives_way, kept}
 use Rattle.macs_control.specs.StandingWords.{PlaceWords}

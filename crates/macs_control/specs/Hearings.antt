@@ -40,7 +40,8 @@ HearsNoLine link now front place rest new = (heard : Hearing) × (looked : Place
 -- a client between these sends a line, and gets the last place
 abbrev pub HearsLine : {S : Type 0} → (S → Option Link) → ℕ → List (Place S) → Place S → List (Place S) → Heard
     → List (Place S) → Type 0
-HearsLine link now front place rest heard new = (looked : Place _) × LooksAt link now place (hears.Line heard.line) looked
+HearsLine link now front place rest heard new = (looked : Place _)
+    × LooksAt link now place (hears.Line heard.line) looked
     × (heard.client ≡ client_of (seat_in place)) × (new ≡ front ++ rest ++ looked ∷ [])
 
 -- a client between these is looked at

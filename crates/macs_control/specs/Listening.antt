@@ -1,6 +1,6 @@
 -- When a desk listens to its clients, and what it sends them.
 use Rattle.std.specs.Prelude.{◌≡◌, ◌≢◌, ◌⊎◌, ◌==◌, ◌-◌, ◌++◌, ◌||◌, ⊤, ℕ, Bool, true, false, List, [], ◌∷◌}
-use Rattle.std.specs.Prelude.{Option, Some, None, Result, Ok, Err}
+use Rattle.std.specs.Prelude.{Option, Some, None, Result, Ok, Err, if◌then◌else◌, length, nat_le}
 use Rattle.std.specs.Str.{IsUtf8}
 use Rattle.macs_config.specs.declared.command.Command.{Command}
 use Rattle.macs_edge.specs.declared.attending.CommandEnd.{CommandEnd}
@@ -89,10 +89,14 @@ abbrev pub IsRead : List ℕ → Option Request → Type 0
 IsRead text None = IsNoRequest text
 IsRead text (Some request) = text ≡ request_line request
 
--- a report is sent, followed by the end of the answer; or memory runs out, and that is sent
-abbrev pub Tells : Client → List ℕ → List Talk → Type 0
-Tells client text talk = (talk ≡ Said client text ∷ Said client (end_text 0) ∷ [])
-    ⊎ (talk ≡ Said client (end_text 5) ∷ [])
+-- how many octets a report may have
+abbrev pub report_room : ℕ
+report_room = 65536
+
+-- a report is sent, followed by the end of the answer; one that is too long is not
+abbrev pub told : Client → List ℕ → List Talk
+told client text = if nat_le (length text) report_room then Said client text ∷ Said client (end_text 0) ∷ []
+    else Said client (end_text 5) ∷ []
 
 -- A command is submitted once its key is noted, and is answered when it is done. If the key may not be installed it is
 -- answered at once
@@ -102,22 +106,21 @@ HandsIn client command (Err fault) talk order = (talk ≡ Said client (not_noted
 
 -- the immediate answer to a request, and the desk's order
 abbrev pub Answers : Reports → Client → Request → List Talk → Order → Type 0
-Answers reports client Show talk order = Tells client reports.shown talk × (order ≡ Go)
+Answers reports client Show talk order = (talk ≡ told client reports.shown) × (order ≡ Go)
 Answers reports client Counters talk order = (dropped : Dropped) × IsKnown reports.known dropped
-    × Tells client (reports.counted dropped) talk × (order ≡ Go)
-Answers reports client Keys talk order = Tells client reports.keys talk × (order ≡ Go)
-Answers reports client Traffic talk order = Tells client reports.traffic talk × (order ≡ Go)
-Answers reports client About talk order = Tells client reports.about talk × (order ≡ Go)
+    × (talk ≡ told client (reports.counted dropped)) × (order ≡ Go)
+Answers reports client Keys talk order = (talk ≡ told client reports.keys) × (order ≡ Go)
+Answers reports client Traffic talk order = (talk ≡ told client reports.traffic) × (order ≡ Go)
+Answers reports client About talk order = (talk ≡ told client reports.about) × (order ≡ Go)
 Answers reports client Stop talk order = (talk ≡ Said client (end_text 0) ∷ []) × (order ≡ End)
 Answers reports client (Apply command) talk order = (noted : Result (Unit {0}) NoteFault)
     × IsKnown (reports.noted command) noted × HandsIn client command noted talk order
 
--- a line is parsed: it is a request, or not, or memory runs out
+-- a line is parsed: it is a request, or not
 abbrev pub Reads : Reports → HeardLine → List Talk → Order → Type 0
 Reads reports heard talk order =
     ((request : Request) × (heard.line.items ≡ request_line request) × Answers reports heard.client request talk order)
     ⊎ (IsNoRequest heard.line.items × (talk ≡ Said heard.client (end_text 2) ∷ []) × (order ≡ Go))
-    ⊎ ((talk ≡ Said heard.client (end_text 5) ∷ []) × (order ≡ Go))
 
 -- ---- before a turn
 
@@ -166,10 +169,14 @@ LooksIf false was_quiet is_full reports old talk order new = (talk ≡ []) × (o
 
 -- ---- metrics
 
--- the metrics are written, with what was dropped, if they are due and memory does not run out
+-- a text is written, unless it is too long
+abbrev pub put : List ℕ → List Note
+put text = if nat_le (length text) report_room then Put text ∷ [] else []
+
+-- the metrics are written, with what was dropped, if they are due
 abbrev pub Measures : Option Dropped → (Dropped → List ℕ) → List Note → Type 0
-Measures known text notes = (notes ≡ Asked false ∷ []) ⊎ (notes ≡ Asked true ∷ [])
-    ⊎ ((dropped : Dropped) × IsKnown known dropped × (notes ≡ Asked true ∷ Put (text dropped) ∷ []))
+Measures known text notes = (notes ≡ Asked false ∷ [])
+    ⊎ ((dropped : Dropped) × IsKnown known dropped × (notes ≡ Asked true ∷ put (text dropped)))
 
 -- the same if it is time to look
 abbrev pub MeasuresIf : Bool → Option Dropped → (Dropped → List ℕ) → List Note → Type 0

@@ -1,5 +1,6 @@
 -- Clients that connect.
-use Rattle.std.specs.Prelude.{◌≡◌, ◌++◌, ◌∷◌, ◌+◌, ◌-◌, ◌^◌, ◌&&◌, ◌⊎◌, ⊤, ℕ, Bool, true, false, List, [], length, nat_lt}
+use Rattle.std.specs.Prelude.{◌≡◌, ◌++◌, ◌∷◌, ◌+◌, ◌-◌, ◌^◌, ◌&&◌, ◌⊎◌, ⊤, ℕ, Bool, true, false, List, [], length}
+use Rattle.std.specs.Prelude.{nat_lt}
 use Rattle.macs_control.specs.Places.{has_room, last_of, left, places_of, seat_in, second_of, standing_in}
 use Rattle.macs_control.specs.Seats.{client_of, connection_of, held_by}
 use Rattle.macs_control.specs.Standings.{new_standing}

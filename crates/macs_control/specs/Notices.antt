@@ -1,5 +1,5 @@
 -- Addresses of local sockets, unix(7).
-use Rattle.std.specs.Prelude.{◌≡◌, ◌+◌, ◌==◌, if◌then◌else◌, ℕ, List, [], ◌∷◌, ◌++◌, length, take}
+use Rattle.std.specs.Prelude.{◌≡◌, ◌+◌, ◌==◌, if◌then◌else◌, ℕ, List, [], ◌∷◌, length, take}
 
 -- the name as it is in the address: for an abstract one, which begins with `@` (64), the first octet is 0
 abbrev pub name_octets : List ℕ → List ℕ

@@ -1,6 +1,7 @@
 -- Clients that have places.
 use Rattle.std.specs.List.{position_or_len, remove}
-use Rattle.std.specs.Prelude.{◌≡◌, ◌+◌, ◌-◌, ◌^◌, ◌||◌, if◌then◌else◌, ℕ, Bool, List, [], filter, is_some, length, min, not}
+use Rattle.std.specs.Prelude.{◌≡◌, ◌+◌, ◌-◌, ◌^◌, ◌||◌, if◌then◌else◌, ℕ, Bool, List, [], filter, is_some, length, min}
+use Rattle.std.specs.Prelude.{not}
 use Rattle.std.specs.Prelude.{position, nat_eq, nat_lt}
 use Rattle.macs_commands.specs.declared.requests.clients.Client.{Client}
 use Rattle.macs_control.specs.Seats.{client_of}

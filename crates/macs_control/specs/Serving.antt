@@ -1,6 +1,6 @@
 -- What is reported to clients over a whole relay: the result of each command that one of them gave, once, in the order
 -- of tickets.
-use Rattle.std.specs.Prelude.{◌≡◌, ◌++◌, ℕ, Bool, List, [], ◌∷◌, flat_map, map, Option, Some, Ok}
+use Rattle.std.specs.Prelude.{◌≡◌, ◌++◌, ℕ, Bool, List, [], ◌∷◌, flat_map, map, Some, Ok}
 use Rattle.macs_edge.specs.Commanding.{Ended, ended_by, tickets_taken}
 use Rattle.macs_edge.specs.declared.attending.CommandEnd.{CommandEnd}
 use Rattle.macs_edge.specs.declared.attending.DeskEvent.{DeskEvent}

@@ -1,5 +1,5 @@
 -- What follows from the definitions of a client's state: which client loses its place, and when.
-use Rattle.std.specs.Prelude.{◌≡◌, ◌≢◌, ◌≤◌, ◌<◌, ◌+◌, ◌-◌, ◌^◌, ◌∷◌, ◌++◌, ℕ, true, false, List, [], length}
+use Rattle.std.specs.Prelude.{◌≡◌, ◌≤◌, ◌<◌, ◌∷◌, ◌++◌, ℕ, true, false, List, [], length}
 use Rattle.std.specs.List.{list_any}
 use Rattle.std.specs.Prelude.{is_some, position}
 use Rattle.macs_control.specs.Places.{gives_way, has_room, kept, left, standing_in}

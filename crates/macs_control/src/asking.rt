@@ -6,7 +6,6 @@ ghost use Rattle.macs_commands.specs.Requests.{end_line};
 use crate::connection::Connection;
 use crate::seat::{Hearing, Seat};
 use macs_commands::requests::{Client, Line, MAX_LINE, end_of_line};
-use macs_commands::secrets::{SecretText, text_of};
 use std::alloc::{AllocError, Global};
 use std::str;
 
@@ -85,16 +84,14 @@ impl<S: Connection> Asker<S> {
         }
     }
 
-    /// Sends a line, to which its line feed is added. If that fails, its first octets may have been
-    /// sent.
-    pub fn send(&mut self, alloc: Global, line: &str) -> Result<(), AskFault>
-        ensures sent { OnOk result (Sends (conversation_of S.link self.old) (line.now ++ 10 ∷ [])
+    /// Sends a line with its line feed. If that fails, its first octets may have been sent.
+    pub fn send(&mut self, line: &[u8]) -> Result<(), AskFault>
+        ensures sent { OnOk result (Sends (conversation_of S.link self.old) line.now
             (conversation_of S.link self.new)) }
-        ensures cut { IfErr result (λ fault. SendsSome (conversation_of S.link self.old)
-            (line.now ++ 10 ∷ []) (conversation_of S.link self.new)) }
+        ensures cut { IfErr result (λ fault. SendsSome (conversation_of S.link self.old) line.now
+            (conversation_of S.link self.new)) }
     {
-        let text = SecretText(text_of(alloc, MAX_LINE, format_args!("{line}\n"))?);
-        if self.relay.try_send(text.0.as_str().as_bytes()) {
+        if self.relay.try_send(line) {
             return Ok(());
         }
         Err(AskFault::Gone)

@@ -12,7 +12,7 @@ mod overruns;
 mod replies;
 mod unanswered;
 
-pub use control_desk::ControlDesk;
+pub use control_desk::{ControlDesk, report_paper};
 pub use key_notes::{KeyNotes, NoteFault};
 pub use last_good::Time;
 pub use no_system::NoSystem;

@@ -10,12 +10,15 @@ ghost use Rattle.macs_program.specs.Asking.{FailsToEnd, IsUnheard, IsUnprinted, 
 ghost use Rattle.macs_program.specs.Asking.{SaysNoMore, failure_in};
 
 use macs_cli::{DiskFault, Failure, Status, Stream, print_json, print_octets};
-use macs_commands::requests::{Request, line_of_request};
-use macs_commands::secrets::SecretText;
+use macs_commands::Paper;
+use macs_commands::requests::{MAX_LINE, Request, write_request};
 use macs_control::{Answer, Asker, Connection};
 use macs_journal::JournalFault;
 use std::alloc::Global;
 use std::str;
+
+/// Room for the line of a request and its line feed, in octets.
+const LINE_ROOM: usize = MAX_LINE + 1;
 
 /// Sends a request to a relay. Fails with `Memory` if this program has none, and with `Control` if
 /// the relay goes away.
@@ -30,9 +33,16 @@ fn send_request<S: Connection>(
         (request_line request.now ++ 10 ∷ []) (conversation_of S.link asker.new)) }
     ensures failed { IfErr result IsUnheard }
 {
-    let line = SecretText(line_of_request(alloc, request)?);
-    asker.send(alloc, line.0.as_str())?;
-    Ok(())
+    let mut line = Paper::new(alloc, LINE_ROOM)?;
+    write_request(&mut line, request);
+    line.end_line();
+    match line.text() {
+        Some(octets) => {
+            asker.send(octets)?;
+            Ok(())
+        }
+        None => Err(Failure::Memory), // No request is so long.
+    }
 }
 
 /// The relay's answer to a request. Fails with `Memory` if this program has none, and with

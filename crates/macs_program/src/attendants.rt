@@ -7,7 +7,7 @@ use crate::counters_name::refuse_other_file;
 use crate::pacing::limit_of;
 use crate::relay_system::RelaySystem;
 use macs_cli::{Failure, Running};
-use macs_control::desk::ControlDesk;
+use macs_control::desk::{ControlDesk, report_paper};
 use macs_control::{ControlSocket, MetricsPlace, Wires, remove_name};
 use macs_offline::KeyList;
 use std::alloc::Global;
@@ -61,7 +61,8 @@ fn desk_over<'a, T: Files + Net + Clock>(
         wires,
         keys,
     };
-    Ok(ControlDesk::new(alloc, program, clients, metrics, system))
+    let paper = report_paper(alloc)?;
+    Ok(ControlDesk::new(paper, program, clients, metrics, system))
 }
 
 /// Where the counters are written, if they are. Fails with `Memory`, or with `Control` if another

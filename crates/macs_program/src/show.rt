@@ -7,10 +7,11 @@ ghost use Rattle.macs_program.specs.Endpoints.{ShowsIn};
 ghost use Rattle.macs_program.specs.Tasks.{DoesShow};
 
 use crate::task::{Task, with_file};
-use macs_cli::{Failure, Status, Stream, print};
+use macs_cli::{Failure, Status, Stream, print_octets};
+use macs_commands::Paper;
 use macs_disk::{DiskFile, SectorDisk};
 use macs_endpoint::Endpoint;
-use macs_texts::show_lines;
+use macs_texts::{REPORT_ROOM, show_lines};
 use std::alloc::Global;
 use std::rt::Files;
 
@@ -25,8 +26,12 @@ impl<D: SectorDisk, W: Stream> Task<D, W> for ShowAll {
 
     #[inline(never)]
     fn run(self, endpoint: &mut Endpoint<D>, out: &mut W) -> Result<Status, Failure> {
-        let text = show_lines(self.alloc, endpoint)?;
-        print(out, text.as_str())?;
+        let mut paper = Paper::new(self.alloc, REPORT_ROOM)?;
+        show_lines(&mut paper, endpoint);
+        let Some(text) = paper.text() else {
+            return Err(Failure::Memory);
+        };
+        print_octets(out, text)?;
         Ok(Status::Done)
     }
 }

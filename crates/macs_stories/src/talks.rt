@@ -51,6 +51,11 @@ impl Talks {
         }
     }
 
+    /// There was no memory for a relay.
+    pub fn cut(&mut self) {
+        self.is_cut = true;
+    }
+
     fn is_gone(&self, client: u64) -> bool {
         self.gone.iter().any(|gone| *gone == client)
     }

@@ -6,7 +6,7 @@ use crate::endpoint::Played;
 use crate::talks::Talks;
 use crate::text::{Answer, Words, filled, frame_at, octets_of, tell_frame, tell_sent, whole};
 use macs_commands::requests::NoMetrics;
-use macs_control::desk::{ControlDesk, NoSystem};
+use macs_control::desk::{ControlDesk, NoSystem, report_paper};
 use macs_edge::{
     FaultWire, Got, Idle, MemWire, RelaySummary, Unattended, Wire, WireFault, attend, relay,
 };
@@ -359,8 +359,12 @@ fn served(
     talks: &mut Talks,
     alloc: Global,
 ) -> Result<RelaySummary, RefillFault> {
+    let Ok(paper) = report_paper(alloc) else {
+        talks.cut();
+        return Err(RefillFault::Stopped);
+    };
     let clients = replace(talks, Talks::new(alloc));
-    let mut desk = ControlDesk::new(alloc, Program::none(alloc), clients, NoMetrics, NoSystem);
+    let mut desk = ControlDesk::new(paper, Program::none(alloc), clients, NoMetrics, NoSystem);
     let told = attend(
         endpoint,
         &mut wires.controlled.front,

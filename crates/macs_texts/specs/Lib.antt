@@ -1,5 +1,4 @@
 pub mod Lines
-pub mod Reports
 pub mod Refusals
 pub mod Showing
 pub mod Counting

@@ -2,6 +2,8 @@
 use Rattle.std.specs.Prelude.{ℕ, List, [], ◌∷◌, ◌++◌, codes, Option, Some, None}
 use Rattle.std.specs.Fmt.{decimal}
 use Rattle.hex.specs.Hex.{encode_lower}
+use Rattle.macs_texts.specs.declared.lines.Subject.{Subject}
+use Rattle.macs_texts.specs.declared.lines.Subject.TheVariants as subject
 
 -- a line with its end
 abbrev pub line : List ℕ → List ℕ
@@ -32,3 +34,9 @@ tx_name an = codes "tx " ++ decimal an
 -- a receive association, as lines name it
 abbrev pub rx_name : List ℕ → ℕ → List ℕ
 rx_name sci an = codes "rx " ++ (encode_lower sci ++ (codes " " ++ decimal an))
+
+-- what a line is about, as lines name it
+abbrev pub name_of : Subject → List ℕ
+name_of (subject.Channel sci) = channel_name sci
+name_of (subject.Tx an) = tx_name an
+name_of (subject.Rx sci an) = rx_name sci an

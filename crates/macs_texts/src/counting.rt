@@ -1,8 +1,8 @@
 //! The counters of an endpoint and of its wires, as text.
-#![tactic(auto, using(crate::proofs::Adding::one_more))]
 
-ghost use Rattle.std.specs.Prelude.{◌≡◌, ◌-◌, ◌^◌, flat_map, IfOk, OnOk, string_bytes};
+ghost use Rattle.std.specs.Prelude.{◌≡◌, ◌-◌, ◌^◌, flat_map};
 ghost use Rattle.std.specs.Option.{option_map};
+ghost use Rattle.macs_commands.specs.Papers.{Writes};
 ghost use Rattle.macs_config.specs.Config.{max_spent};
 ghost use Rattle.macs_config.specs.Value.{config_of};
 ghost use Rattle.macs_endpoint.specs.State.{no_logs};
@@ -11,19 +11,18 @@ ghost use Rattle.macs_rxsc.specs.Value as rxsc;
 ghost use Rattle.macs_txsc.specs.Value as txsc;
 ghost use Rattle.macs_texts.specs.Counting.{channel_text, counters_text, keys_text, left_line};
 ghost use Rattle.macs_texts.specs.Counting.{left_text, report_text, rx_text, tx_text};
-ghost use Rattle.macs_texts.specs.Reports.{Adds};
+ghost use Rattle.macs_texts.specs.Lines.{channel_name, count_line_of};
 
-use crate::lines::channel_name;
-use crate::report::{Added, Report};
+use crate::lines::{Subject, count_line, count_line_of, counted, numbered, put_name};
 use crate::wire_report::{WIRE_NUMBERS, WireReport, wire_number};
 use crate::words::{fault_words, verdict_words, wire_words};
+use macs_commands::Paper;
 use macs_config::{Config, MAX_SPENT};
 use macs_disk::SectorDisk;
 use macs_endpoint::Endpoint;
 use macs_frame::{An, Sci};
 use macs_rxsc::{Kind, Reason, Verdict};
 use macs_txsc::TxFault;
-use std::alloc::{AllocError, Global};
 
 /// The faults that are counted, in the order in which they are checked.
 pub(crate) const TX_FAULTS: [TxFault; 6] = [
@@ -84,113 +83,119 @@ pub(crate) fn keys_left(spent: usize) -> u64
 }
 
 /// How many plain frames were protected, and how many met each fault.
-fn tx_lines<D: SectorDisk>(report: &mut Report, endpoint: &Endpoint<D>) -> Added
-    ensures { OnOk result
-        (Adds report.old report.new (tx_text (txsc.counters_of endpoint.now.tx))) }
+fn tx_lines<D: SectorDisk>(paper: &mut Paper, endpoint: &Endpoint<D>)
+    ensures { Writes paper.old paper.new (tx_text (txsc.counters_of endpoint.now.tx)) }
 {
     let counters = endpoint.counters();
-    report.count("tx", "protected", counters.protected())?;
+    count_line(paper, "tx", "protected", counters.protected());
     for &fault in &TX_FAULTS {
-        report.count("tx", fault_words(fault), counters.tx_fault(fault))?;
+        count_line(paper, "tx", fault_words(fault), counters.tx_fault(fault));
     }
-    Ok(())
 }
 
 /// How often each verdict was given.
-fn rx_lines<D: SectorDisk>(report: &mut Report, endpoint: &Endpoint<D>) -> Added
-    ensures { OnOk result
-        (Adds report.old report.new (rx_text (rxsc.counters_of endpoint.now.rx))) }
+fn rx_lines<D: SectorDisk>(paper: &mut Paper, endpoint: &Endpoint<D>)
+    ensures { Writes paper.old paper.new (rx_text (rxsc.counters_of endpoint.now.rx)) }
 {
     let counters = endpoint.counters();
     for &verdict in &RX_VERDICTS {
-        report.count("rx", verdict_words(verdict), counters.verdict(verdict))?;
+        count_line(
+            paper,
+            "rx",
+            verdict_words(verdict),
+            counters.verdict(verdict),
+        );
     }
-    Ok(())
+}
+
+/// Writes the line of a count of a channel, if there is one.
+fn channel_count(paper: &mut Paper, sci: Sci, what: &str, count: Option<u64>)
+    ensures { Writes paper.old paper.new (count_line_of (channel_name sci) what.now count) }
+{
+    if let Some(count) = count {
+        put_name(paper, Subject::Channel(sci));
+        counted(paper, what, count);
+    }
 }
 
 /// How often each verdict was given on frames of a channel.
-fn channel_lines<D: SectorDisk>(report: &mut Report, endpoint: &Endpoint<D>, sci: Sci) -> Added
-    ensures { OnOk result (Adds report.old report.new
-        (channel_text (rxsc.channel_counters_of endpoint.now.rx) sci)) }
+fn channel_lines<D: SectorDisk>(paper: &mut Paper, endpoint: &Endpoint<D>, sci: Sci)
+    ensures { Writes paper.old paper.new
+        (channel_text (rxsc.channel_counters_of endpoint.now.rx) sci) }
 {
     let counters = endpoint.counters();
-    let side = channel_name(report.alloc, sci)?;
     for &verdict in &CHANNEL_VERDICTS {
         let count = counters.channel(sci, verdict);
-        report.count_of(side.as_str(), verdict_words(verdict), count)?;
+        channel_count(paper, sci, verdict_words(verdict), count);
     }
-    Ok(())
 }
 
 /// The same for each channel.
-fn channels_lines<D: SectorDisk>(report: &mut Report, endpoint: &Endpoint<D>) -> Added
-    ensures { OnOk result (Adds report.old report.new
+fn channels_lines<D: SectorDisk>(paper: &mut Paper, endpoint: &Endpoint<D>)
+    ensures { Writes paper.old paper.new
         (flat_map (channel_text (rxsc.channel_counters_of endpoint.now.rx))
-        (state_of endpoint.now no_logs).config.channels)) }
+        (state_of endpoint.now no_logs).config.channels) }
 {
     let channels = endpoint.config().channels();
     for sci in channels.iter() {
-        channel_lines(report, endpoint, *sci)?;
+        channel_lines(paper, endpoint, *sci);
     }
-    Ok(())
 }
 
 /// The numbers of a wire that are known.
-fn wire_lines(report: &mut Report, side: &str, wire: &WireReport) -> Added
-    ensures { OnOk result (Adds report.old report.new (report_text side.now wire.now)) }
+fn wire_lines(paper: &mut Paper, side: &str, wire: &WireReport)
+    ensures { Writes paper.old paper.new (report_text side.now wire.now) }
 {
     for &number in &WIRE_NUMBERS {
-        report.count_of(side, wire_words(number), wire_number(wire, number))?;
+        count_line_of(paper, side, wire_words(number), wire_number(wire, number));
     }
-    Ok(())
 }
 
 /// How many packet numbers are left under a transmit association, if it exists.
-fn left_line<D: SectorDisk>(report: &mut Report, endpoint: &Endpoint<D>, an: An) -> Added
-    ensures { OnOk result
-        (Adds report.old report.new (left_line (state_of endpoint.now no_logs) an)) }
+fn left_line<D: SectorDisk>(paper: &mut Paper, endpoint: &Endpoint<D>, an: An)
+    ensures { Writes paper.old paper.new (left_line (state_of endpoint.now no_logs) an) }
 {
-    let number = an.get().to_string(report.alloc)?;
-    let left = left_of(endpoint.next_number(an));
-    report.count_of("left tx", number.as_str(), left)
+    if let Some(left) = left_of(endpoint.next_number(an)) {
+        paper.put("left tx");
+        numbered(paper, " ", u64::from(an.get()));
+        numbered(paper, " ", left);
+        paper.end_line();
+    }
 }
 
 /// The same for each.
-fn left_lines<D: SectorDisk>(report: &mut Report, endpoint: &Endpoint<D>) -> Added
-    ensures { OnOk result (Adds report.old report.new (left_text (state_of endpoint.now no_logs))) }
+fn left_lines<D: SectorDisk>(paper: &mut Paper, endpoint: &Endpoint<D>)
+    ensures { Writes paper.old paper.new (left_text (state_of endpoint.now no_logs)) }
 {
     for an in An::all() {
-        left_line(report, endpoint, an)?;
+        left_line(paper, endpoint, an);
     }
-    Ok(())
 }
 
 /// How many keys may still be installed in each direction.
-fn key_lines(report: &mut Report, config: &Config) -> Added
-    ensures { OnOk result (Adds report.old report.new (keys_text (config_of config.now))) }
+fn key_lines(paper: &mut Paper, config: &Config)
+    ensures { Writes paper.old paper.new (keys_text (config_of config.now)) }
 {
-    report.count("left keys", "tx", keys_left(config.spent_tx()))?;
-    report.count("left keys", "rx", keys_left(config.spent_rx()))
+    count_line(paper, "left keys", "tx", keys_left(config.spent_tx()));
+    count_line(paper, "left keys", "rx", keys_left(config.spent_rx()));
 }
 
-/// The counters of an endpoint and of its wires, one per line. Fails only if memory runs out.
+/// Writes the counters of an endpoint and of its wires, one per line.
 pub fn counter_lines<D: SectorDisk>(
-    alloc: Global,
+    paper: &mut Paper,
     endpoint: &Endpoint<D>,
     controlled: &WireReport,
     common: &WireReport,
-) -> Result<String, AllocError>
-    ensures { IfOk result (λ text. string_bytes text ≡ counters_text (state_of endpoint.now no_logs)
+)
+    ensures { Writes paper.old paper.new (counters_text (state_of endpoint.now no_logs)
         (txsc.counters_of endpoint.now.tx) (rxsc.counters_of endpoint.now.rx)
         (rxsc.channel_counters_of endpoint.now.rx) controlled.now common.now) }
 {
-    let mut report = Report::new(alloc);
-    tx_lines(&mut report, endpoint)?;
-    rx_lines(&mut report, endpoint)?;
-    channels_lines(&mut report, endpoint)?;
-    wire_lines(&mut report, "wire 1", controlled)?;
-    wire_lines(&mut report, "wire 2", common)?;
-    left_lines(&mut report, endpoint)?;
-    key_lines(&mut report, endpoint.config())?;
-    Ok(report.into_text())
+    tx_lines(paper, endpoint);
+    rx_lines(paper, endpoint);
+    channels_lines(paper, endpoint);
+    wire_lines(paper, "wire 1", controlled);
+    wire_lines(paper, "wire 2", common);
+    left_lines(paper, endpoint);
+    key_lines(paper, endpoint.config());
 }

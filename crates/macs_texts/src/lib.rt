@@ -1,5 +1,5 @@
 //! What an endpoint and its wires report, as text.
-#![tactic(auto)]
+#![tactic(auto, using(crate::proofs::Adding::one_more, macs_commands::proofs::Written::written_both, macs_commands::proofs::Written::written_none))]
 
 mod build;
 mod counting;
@@ -7,9 +7,9 @@ mod key_names;
 mod keys;
 mod lines;
 mod measuring;
+mod owned_lines;
 mod program;
 mod refusals;
-mod report;
 mod samples;
 mod showing;
 mod traffic;
@@ -20,9 +20,10 @@ pub use build::Build;
 pub use counting::{RX_VERDICTS, counter_lines};
 pub use key_names::key_digest;
 pub use keys::keys_lines;
-pub use lines::{ended, joined};
+pub use lines::REPORT_ROOM;
 pub use measuring::metric_lines;
-pub use program::{Program, about_lines, word_line};
+pub use owned_lines::{ended, joined, word_line};
+pub use program::{Program, about_lines};
 pub use refusals::refusal_name;
 pub use showing::show_lines;
 pub use traffic::traffic_lines;

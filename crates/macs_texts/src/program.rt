@@ -1,12 +1,12 @@
 //! A run of the program.
 
-ghost use Rattle.std.specs.Prelude.{◌≡◌, IfOk, string_bytes};
-ghost use Rattle.macs_texts.specs.Programs.{about_text, word_line};
+ghost use Rattle.macs_commands.specs.Papers.{Writes};
+ghost use Rattle.macs_texts.specs.Programs.{about_text};
 
 use crate::build::Build;
-use crate::lines::ended;
-use crate::report::Report;
-use std::alloc::{AllocError, Global};
+use crate::lines::{known_line, worded_line};
+use macs_commands::Paper;
+use std::alloc::Global;
 
 /// A run of the program.
 #[derive(Drop)]
@@ -35,26 +35,13 @@ impl Program {
     }
 }
 
-/// The line of a word: its name and value.
-pub fn word_line(alloc: Global, name: &str, word: &str) -> Result<String, AllocError>
-    ensures { IfOk result (λ text. string_bytes text ≡ word_line name.now word.now) }
-{
-    ended(format!(in alloc; "{name} {word}")?)
-}
-
-/// Which program runs, and since when, one line each. Fails only if memory runs out.
-pub fn about_lines(alloc: Global, program: &Program) -> Result<String, AllocError>
-    ensures { IfOk result
-        (λ text. string_bytes text ≡ about_text program.now.build program.now.started) }
+/// Writes which program runs, and since when, one line each.
+pub fn about_lines(paper: &mut Paper, program: &Program)
+    ensures { Writes paper.old paper.new (about_text program.now.build program.now.started) }
 {
     let build = &program.build;
-    let version = build.version.as_str();
-    let commit = build.commit.as_str();
-    let proved = build.proved.as_str();
-    let mut report = Report::new(alloc);
-    report.line(format_args!("macsecd {version}"))?;
-    report.line(format_args!("commit {commit}"))?;
-    report.line(format_args!("proved {proved}"))?;
-    report.known("started", program.started)?;
-    Ok(report.into_text())
+    worded_line(paper, "macsecd", build.version.as_str());
+    worded_line(paper, "commit", build.commit.as_str());
+    worded_line(paper, "proved", build.proved.as_str());
+    known_line(paper, "started", program.started);
 }

@@ -1,11 +1,7 @@
 //! The words of a text, one after another.
 
-ghost use Rattle.std.specs.Prelude.{◌≡◌, IfOk, string_bytes};
-ghost use Rattle.macs_commands.specs.Cutting.{after_word, first_word, spaced};
-
-use crate::requests::inbox::MAX_LINE;
-use crate::secrets::text_of;
-use std::alloc::{AllocError, Global};
+ghost use Rattle.std.specs.Prelude.{◌≡◌};
+ghost use Rattle.macs_commands.specs.Cutting.{after_word, first_word};
 
 /// A text, cut at its first blank.
 #[derive(Clone, Copy)]
@@ -30,11 +26,4 @@ pub(crate) fn split_word(text: &str) -> Parts<'_>
             rest: "",
         },
     }
-}
-
-/// Two texts with a blank between them.
-pub(crate) fn spaced(alloc: Global, word: &str, rest: &str) -> Result<String, AllocError>
-    ensures { IfOk result (λ text. string_bytes text ≡ spaced word.now rest.now) }
-{
-    text_of(alloc, MAX_LINE, format_args!("{word} {rest}"))
 }

@@ -1,130 +1,122 @@
-//! Commands as lines, and lines as commands.
+//! Commands as lines.
 
-ghost use Rattle.std.specs.Prelude.{◌≡◌, Some, IfOk, IfSome, string_bytes};
+ghost use Rattle.std.specs.Prelude.{◌≡◌, ◌++◌, codes};
 ghost use Rattle.std.specs.Fmt.{decimal};
 ghost use Rattle.hex.specs.Hex.{encode_lower};
-ghost use Rattle.macs_config.specs.declared.command.Command.{Command};
 ghost use Rattle.macs_config.specs.declared.command.Command.TheVariants as told;
-ghost use Rattle.macs_commands.specs.CommandLines.{IsTold, command_line, fields_of, key_digits};
+ghost use Rattle.macs_commands.specs.CommandLines.{command_line, fields_of};
+ghost use Rattle.macs_commands.specs.Papers.{Writes};
 
 use crate::command_word::CommandWord;
 use crate::modes::{protection_word, replay_word, sci_mode_word, validate_word};
-use crate::requests::commands_of_lines::taken_for;
-use crate::requests::cutting::spaced;
-use crate::requests::inbox::MAX_LINE;
-use crate::secrets::{SecretText, digits_of, text_of};
+use crate::paper::Paper;
 use macs_aes::Key;
 use macs_config::Command;
 use macs_fields::{An, Sci};
-use std::alloc::{AllocError, Global};
 
-/// An association number, in decimal digits.
-fn an_digits(alloc: Global, an: An) -> Result<String, AllocError>
-    ensures { IfOk result (λ text. string_bytes text ≡ decimal an) }
+/// Writes a text and a blank.
+fn put_word(paper: &mut Paper, text: &str)
+    ensures { Writes paper.old paper.new (text.now ++ codes " ") }
 {
-    let text = an.get().to_string(alloc)?;
-    Ok(text)
+    paper.put(text);
+    paper.put(" ");
 }
 
-/// An SCI, in hex digits.
-fn sci_digits(alloc: Global, sci: Sci) -> Result<String, AllocError>
-    ensures { IfOk result (λ text. string_bytes text ≡ encode_lower sci) }
+/// Writes a number, in decimal digits, and a blank.
+fn put_number(paper: &mut Paper, number: u32)
+    ensures { Writes paper.old paper.new (decimal number ++ codes " ") }
 {
-    let text = hex::encode(alloc, sci.get())?;
-    Ok(text)
+    paper.number(u64::from(number));
+    paper.put(" ");
 }
 
-/// A key, in hex digits.
-fn key_digits(alloc: Global, key: Key) -> Result<String, AllocError>
-    ensures { IfOk result (λ text. string_bytes text ≡ key_digits key) }
+/// Writes octets, in hex digits, and a blank.
+fn put_hex(paper: &mut Paper, octets: &[u8])
+    ensures { Writes paper.old paper.new (encode_lower octets.now ++ codes " ") }
 {
-    digits_of(alloc, key.as_slice())
+    paper.hex(octets);
+    paper.put(" ");
 }
 
-fn replay_fields(alloc: Global, on: bool, window: u32) -> Result<String, AllocError>
-    ensures { IfOk result (λ text. string_bytes text ≡ fields_of (told.SetReplay on window)) }
+/// Writes an association number, in decimal digits.
+fn write_an(paper: &mut Paper, an: An)
+    ensures { Writes paper.old paper.new (decimal an) }
 {
-    let on = replay_word(on);
-    let text = format!(in alloc; "{on} {window}")?;
-    Ok(text)
+    paper.number(u64::from(an.get()));
 }
 
-fn tx_install_fields(
-    alloc: Global,
-    an: An,
-    key: Key,
-    start: u32,
-    confidential: bool,
-    offset: u8,
-) -> Result<String, AllocError>
-    ensures { IfOk result (λ text. string_bytes text
-        ≡ fields_of (told.TxInstall an key start confidential offset)) }
+/// Writes an SCI, in hex digits.
+fn write_sci(paper: &mut Paper, sci: Sci)
+    ensures { Writes paper.old paper.new (encode_lower sci) }
 {
-    let number = an.get();
-    let key = SecretText(key_digits(alloc, key)?);
-    let digits = key.0.as_str();
-    let how = protection_word(confidential);
-    let fields = format_args!("{number} {digits} {start} {how} {offset}");
-    text_of(alloc, MAX_LINE, fields)
+    paper.hex(&sci.get());
 }
 
-fn rx_install_fields(
-    alloc: Global,
-    sci: Sci,
-    an: An,
-    key: Key,
-    start: u32,
-    offset: u8,
-) -> Result<String, AllocError>
-    ensures { IfOk result (λ text. string_bytes text
-        ≡ fields_of (told.RxInstall sci an key start offset)) }
+fn write_replay(paper: &mut Paper, on: bool, window: u32)
+    ensures { Writes paper.old paper.new (fields_of (told.SetReplay on window)) }
 {
-    let channel = sci_digits(alloc, sci)?;
-    let number = an.get();
-    let key = SecretText(key_digits(alloc, key)?);
-    let digits = key.0.as_str();
-    let fields = format_args!("{channel} {number} {digits} {start} {offset}");
-    text_of(alloc, MAX_LINE, fields)
+    put_word(paper, replay_word(on));
+    paper.number(u64::from(window));
 }
 
-fn rx_remove_fields(alloc: Global, sci: Sci, an: An) -> Result<String, AllocError>
-    ensures { IfOk result (λ text. string_bytes text ≡ fields_of (told.RxRemove sci an)) }
+fn write_tx_install(paper: &mut Paper, an: An, key: Key, start: u32, confidential: bool, offset: u8)
+    ensures { Writes paper.old paper.new
+        (fields_of (told.TxInstall an key start confidential offset)) }
 {
-    let channel = sci_digits(alloc, sci)?;
-    let number = an.get();
-    let text = format!(in alloc; "{channel} {number}")?;
-    Ok(text)
+    put_number(paper, u32::from(an.get()));
+    put_hex(paper, key.as_slice());
+    put_number(paper, start);
+    put_word(paper, protection_word(confidential));
+    paper.number(u64::from(offset));
 }
 
-/// The fields of a command.
-fn fields_of(alloc: Global, command: &Command) -> Result<String, AllocError>
-    ensures { IfOk result (λ text. string_bytes text ≡ fields_of command.now) }
+fn write_rx_install(paper: &mut Paper, sci: Sci, an: An, key: Key, start: u32, offset: u8)
+    ensures { Writes paper.old paper.new (fields_of (told.RxInstall sci an key start offset)) }
+{
+    put_hex(paper, &sci.get());
+    put_number(paper, u32::from(an.get()));
+    put_hex(paper, key.as_slice());
+    put_number(paper, start);
+    paper.number(u64::from(offset));
+}
+
+fn write_rx_remove(paper: &mut Paper, sci: Sci, an: An)
+    ensures { Writes paper.old paper.new (fields_of (told.RxRemove sci an)) }
+{
+    put_hex(paper, &sci.get());
+    write_an(paper, an);
+}
+
+/// Writes the fields of a command.
+fn write_fields(paper: &mut Paper, command: &Command)
+    ensures { Writes paper.old paper.new (fields_of command.now) }
 {
     match *command {
-        Command::SetValidate(mode) => String::from_str(alloc, validate_word(mode)),
-        Command::SetReplay { on, window } => replay_fields(alloc, on, window),
-        Command::SetSciMode(mode) => String::from_str(alloc, sci_mode_word(mode)),
+        Command::SetValidate(mode) => paper.put(validate_word(mode)),
+        Command::SetReplay { on, window } => write_replay(paper, on, window),
+        Command::SetSciMode(mode) => paper.put(sci_mode_word(mode)),
         Command::TxInstall {
             an,
             key,
             start,
             confidential,
             offset,
-        } => tx_install_fields(alloc, an, key, start, confidential, offset),
-        Command::TxUse { an } | Command::TxRemove { an } => an_digits(alloc, an),
-        Command::RxAdd { sci } | Command::RxDrop { sci } => sci_digits(alloc, sci),
+        } => write_tx_install(paper, an, key, start, confidential, offset),
+        Command::TxUse { an } | Command::TxRemove { an } => write_an(paper, an),
+        Command::RxAdd { sci } | Command::RxDrop { sci } => write_sci(paper, sci),
         Command::RxInstall {
             sci,
             an,
             key,
             start,
             offset,
-        } => rx_install_fields(alloc, sci, an, key, start, offset),
-        Command::RxRemove { sci, an } => rx_remove_fields(alloc, sci, an),
+        } => write_rx_install(paper, sci, an, key, start, offset),
+        Command::RxRemove { sci, an } => write_rx_remove(paper, sci, an),
     }
 }
 
-/// The line of a command, without its line feed: its word and its fields, with a blank before each.
+/// Writes the line of a command, without its line feed: its word and its fields, with a blank
+/// before each.
 ///
 /// | word | fields |
 /// |---|---|
@@ -137,27 +129,10 @@ fn fields_of(alloc: Global, command: &Command) -> Result<String, AllocError>
 /// | `rx-install` | SCI, AN, key, start, offset |
 /// | `rx-remove` | SCI, AN |
 ///
-/// Numbers are decimal, keys and SCIs are in lower-case hex digits. Fails only if memory runs out.
-pub fn line_of_command(alloc: Global, command: &Command) -> Result<String, AllocError>
-    ensures { IfOk result (λ text. string_bytes text ≡ command_line command.now) }
+/// Numbers are decimal, keys and SCIs are in lower-case hex digits.
+pub(crate) fn write_command(paper: &mut Paper, command: &Command)
+    ensures { Writes paper.old paper.new (command_line command.now) }
 {
-    let fields = SecretText(fields_of(alloc, command)?);
-    spaced(alloc, CommandWord::of(command).text(), fields.0.as_str())
-}
-
-/// The command of a line without its line feed, `None` if it is not the line of a command. A
-/// command has one line: any other spelling is rejected. It reads what `line_of_command` writes.
-/// Fails only if memory runs out.
-pub fn command_of_line(alloc: Global, line: &str) -> Result<Option<Command>, AllocError>
-    ensures read { (command : Command) → IsTold command → line.now ≡ command_line command
-        → IfOk result (λ found. found ≡ Some command) }
-    ensures only { IfOk result (λ found.
-        IfSome found (λ command. line.now ≡ command_line command)) }
-{
-    let command = taken_for(line);
-    let text = SecretText(line_of_command(alloc, &command)?);
-    if text.0.as_str() == line {
-        return Ok(Some(command));
-    }
-    Ok(None)
+    put_word(paper, CommandWord::of(command).text());
+    write_fields(paper, command);
 }

@@ -1,14 +1,14 @@
 //! Requests of a client.
 
-ghost use Rattle.std.specs.Prelude.{◌≡◌, Some, IfOk, IfSome, string_bytes};
+ghost use Rattle.std.specs.Prelude.{◌≡◌, ◌↔◌, ◌≤◌, ℕ, List, Some, IfSome, IsTrue, length};
+ghost use Rattle.macs_commands.specs.Papers.{IsWritten, Writes, blank};
 ghost use Rattle.macs_commands.specs.Requests.{IsAsked, own_request, plain_request, request_line};
 ghost use Rattle.macs_commands.specs.declared.requests.request.Request.{Request};
 
+use crate::paper::Paper;
 use crate::requests::commands_of_lines::taken_for;
-use crate::requests::lines::line_of_command;
-use crate::secrets::SecretText;
+use crate::requests::lines::write_command;
 use macs_config::Command;
-use std::alloc::{AllocError, Global};
 
 /// A request of a client, one line.
 #[derive(Clone, Copy, PartialEq, Eq)]
@@ -30,19 +30,18 @@ pub enum Request {
     Apply(Command),
 }
 
-/// The line of a request, without its line feed: a word, or the line of a command. Fails only if
-/// memory runs out.
-pub fn line_of_request(alloc: Global, request: &Request) -> Result<String, AllocError>
-    ensures { IfOk result (λ text. string_bytes text ≡ request_line request.now) }
+/// Writes the line of a request, without its line feed: a word, or the line of a command.
+pub fn write_request(paper: &mut Paper, request: &Request)
+    ensures { Writes paper.old paper.new (request_line request.now) }
 {
     match request {
-        Request::Show => String::from_str(alloc, "show"),
-        Request::Counters => String::from_str(alloc, "counters"),
-        Request::Keys => String::from_str(alloc, "keys"),
-        Request::Traffic => String::from_str(alloc, "traffic"),
-        Request::About => String::from_str(alloc, "about"),
-        Request::Stop => String::from_str(alloc, "stop"),
-        Request::Apply(command) => line_of_command(alloc, command),
+        Request::Show => paper.put("show"),
+        Request::Counters => paper.put("counters"),
+        Request::Keys => paper.put("keys"),
+        Request::Traffic => paper.put("traffic"),
+        Request::About => paper.put("about"),
+        Request::Stop => paper.put("stop"),
+        Request::Apply(command) => write_command(paper, command),
     }
 }
 
@@ -87,19 +86,31 @@ fn request_taken(line: &str) -> Request
     }
 }
 
+/// Whether a line is what is written on a paper that has room for it.
+fn is_written(paper: &Paper, line: &str) -> bool
+    requires { length line.now ≤ paper.now.room }
+    ensures { (text : List ℕ) → IsWritten paper.now text → IsTrue result ↔ line.now ≡ text }
+{
+    match paper.text() {
+        Some(text) => text == line.as_bytes(),
+        None => false,
+    }
+}
+
 /// The request of a line without its line feed, `None` if it is not the line of a request. A
-/// request has one line: any other spelling is rejected. It reads what `line_of_request` writes.
-/// Fails only if memory runs out.
-pub fn request_of_line(alloc: Global, line: &str) -> Result<Option<Request>, AllocError>
+/// request has one line: any other spelling is rejected. It reads what `write_request` writes, on a
+/// paper that has room for the line, and leaves that blank.
+pub fn request_of_line(paper: &mut Paper, line: &str) -> Option<Request>
+    requires { length line.now ≤ paper.old.room }
     ensures read { (request : Request) → IsAsked request → line.now ≡ request_line request
-        → IfOk result (λ found. found ≡ Some request) }
-    ensures only { IfOk result (λ found.
-        IfSome found (λ request. line.now ≡ request_line request)) }
+        → result ≡ Some request }
+    ensures only { IfSome result (λ request. line.now ≡ request_line request) }
+    ensures blank { paper.new ≡ blank paper.old.room }
 {
     let request = request_taken(line);
-    let text = SecretText(line_of_request(alloc, &request)?);
-    if text.0.as_str() == line {
-        return Ok(Some(request));
-    }
-    Ok(None)
+    paper.clear();
+    write_request(paper, &request);
+    let is_its = is_written(paper, line);
+    paper.clear();
+    if is_its { Some(request) } else { None }
 }

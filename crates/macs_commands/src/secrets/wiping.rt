@@ -1,9 +1,6 @@
 //! Octets that are overwritten once they are used.
 
-ghost use Rattle.std.specs.Prelude.{◌≡◌, IfOk, IfSome, length, replicate, string_bytes};
-
-use std::alloc::{AllocError, Global};
-use std::fmt::Display;
+ghost use Rattle.std.specs.Prelude.{◌≡◌, length, replicate};
 
 /// No file.
 const NO_FILE: i32 = -1;
@@ -35,19 +32,4 @@ impl Drop for SecretText {
         let SecretText(text) = self;
         let _octets = SecretOctets(text.into_bytes());
     }
-}
-
-/// The text that displays a value, with capacity for `room` octets: up to that it is never moved,
-/// so that it leaves no copy. Fails if memory is refused.
-pub fn text_of<D: Display + Drop>(
-    alloc: Global,
-    room: usize,
-    value: D,
-) -> Result<String, AllocError>
-    ensures { IfOk result
-        (λ text. IfSome (D.output value) (λ octets. string_bytes text ≡ octets)) }
-{
-    let mut text = String::with_capacity(alloc, room)?;
-    text.write(value)?;
-    Ok(text)
 }

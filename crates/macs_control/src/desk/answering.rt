@@ -1,20 +1,19 @@
 //! How a line of a client is handled.
 
-ghost use Rattle.std.specs.Prelude.{◌≡◌, ℕ, List, Result, IfOk, string_bytes};
-ghost use Rattle.std.specs.Str.{IsUtf8};
+ghost use Rattle.std.specs.Prelude.{◌≡◌, ◌≤◌, ℕ, List, Result, IfSome, length};
 ghost use Rattle.macs_edge.specs.declared.attending.Order.TheVariants.{Go};
-ghost use Rattle.macs_commands.specs.Requests.{IsAsked, request_line};
 ghost use Rattle.macs_commands.specs.InTurn.{InTurn};
+ghost use Rattle.macs_commands.specs.Papers.{IsWritten, Writes, blank};
 ghost use Rattle.macs_commands.specs.Talks.{Talk};
-ghost use Rattle.macs_commands.specs.declared.requests.request.Request.{Request};
-ghost use Rattle.macs_control.specs.Listening.{Answers, HandsIn, IsKnown, IsRead, Reads, Tells};
-ghost use Rattle.macs_control.specs.Listening.{counted_of, reports_of};
+ghost use Rattle.macs_control.specs.Listening.{Answers, HandsIn, IsKnown, IsRead, Reads};
+ghost use Rattle.macs_control.specs.Listening.{counted_of, report_room, reports_of, told};
 ghost use Rattle.macs_control.specs.declared.desk.key_notes.NoteFault.{NoteFault};
 ghost use Rattle.macs_control.specs.declared.desk.overruns.Dropped.{Dropped};
 
 use crate::desk::key_notes::KeyNotes;
 use crate::desk::overruns::{Dropped, Overruns};
-use crate::desk::replies::{DONE, NO_MEMORY, NO_REQUEST, not_noted};
+use crate::desk::replies::{DONE, NO_REQUEST, TOO_LONG, not_noted};
+use macs_commands::Paper;
 use macs_commands::requests::{Client, Clients, Heard, Request, request_of_line};
 use macs_config::Command;
 use macs_disk::SectorDisk;
@@ -23,56 +22,53 @@ use macs_endpoint::Endpoint;
 use macs_texts::{
     Program, about_lines, counter_lines, keys_lines, reported, show_lines, traffic_lines,
 };
-use std::alloc::{AllocError, Global};
 
-/// Parses a request from a line; `None` if it is not UTF-8, or not a request. Fails only if memory
-/// runs out.
-fn request_of(alloc: Global, line: &[u8]) -> Result<Option<Request>, AllocError>
-    ensures { IfOk result (λ found. IsRead line.now found) }
+/// Parses a request from a line; `None` if it is not UTF-8, or not a request. The paper is blank
+/// after a request.
+fn request_of(paper: &mut Paper, line: &[u8]) -> Option<Request>
+    requires { length line.now ≤ paper.old.room }
+    ensures read { IsRead line.now result }
+    ensures blank { IfSome result (λ request. paper.new ≡ blank paper.old.room) }
+    ensures room { paper.new.room ≡ paper.old.room }
 {
     match str::from_utf8(line) {
-        Ok(text) => request_of_line(alloc, text),
-        Err(_) => Ok(None),
+        Ok(text) => request_of_line(paper, text),
+        Err(_) => None,
     }
 }
 
-/// Sends a report to a client, followed by the end of the answer; or the answer that there is no
-/// memory for it.
-fn say_report<C: Clients>(clients: &mut C, client: Client, report: Result<String, AllocError>)
-    ensures { (text : List ℕ) → IfOk report (λ told. string_bytes told ≡ text)
-        → (talk : List Talk) × Tells client text talk
-        × InTurn C.does clients.old talk clients.new }
+/// Sends a report to a client, followed by the end of the answer, and returns the desk's order: the
+/// relay continues. A report that is too long is not sent.
+fn tell<C: Clients>(clients: &mut C, client: Client, report: &Paper) -> Order
+    requires { report.now.room ≡ report_room }
+    ensures order { result ≡ Go }
+    ensures told { (text : List ℕ) → IsWritten report.now text
+        → InTurn C.does clients.old (told client text) clients.new }
 {
-    match report {
-        Ok(text) => {
-            clients.say(client, text.as_bytes());
+    match report.text() {
+        Some(text) => {
+            clients.say(client, text);
             clients.say(client, DONE.as_bytes());
+            Order::Go
         }
-        Err(_) => clients.say(client, NO_MEMORY.as_bytes()),
+        None => {
+            clients.say(client, TOO_LONG.as_bytes());
+            Order::Go
+        }
     }
 }
 
-/// Answers a request with a report, and returns the desk's order: the relay continues.
-fn tell<C: Clients>(clients: &mut C, client: Client, report: Result<String, AllocError>) -> Order
-    ensures { (text : List ℕ) → IfOk report (λ told. string_bytes told ≡ text)
-        → (talk : List Talk) × (Tells client text talk × (result ≡ Go))
-        × InTurn C.does clients.old talk clients.new }
-{
-    say_report(clients, client, report);
-    Order::Go
-}
-
-/// The counters, with what the system dropped.
-fn counted<D: SectorDisk, O: Overruns>(
-    alloc: Global,
+/// Writes the counters, with what the system dropped.
+fn count<D: SectorDisk, O: Overruns>(
+    paper: &mut Paper,
     endpoint: &Endpoint<D>,
     controlled: &WireCounts,
     common: &WireCounts,
     overruns: &O,
-) -> Result<String, AllocError>
+)
     ensures { (dropped : Dropped) × IsKnown (O.known overruns.now) dropped
-        × IfOk result (λ text. string_bytes text
-        ≡ counted_of endpoint.now controlled.now common.now dropped) }
+        × Writes paper.old paper.new
+        (counted_of endpoint.now controlled.now common.now dropped) }
 {
     let Dropped {
         controlled: first,
@@ -80,7 +76,7 @@ fn counted<D: SectorDisk, O: Overruns>(
     } = overruns.dropped();
     let controlled = reported(*controlled, first);
     let common = reported(*common, second);
-    counter_lines(alloc, endpoint, &controlled, &common)
+    counter_lines(paper, endpoint, &controlled, &common);
 }
 
 /// Submits a command once its key is noted, and returns the desk's order.
@@ -103,9 +99,10 @@ fn hand_in<K: KeyNotes, C: Clients>(
     }
 }
 
-/// Answers a request, if it is answered at once, and returns the desk's order.
+/// Answers a request, if it is answered at once, and returns the desk's order. Reports are written
+/// on a blank paper.
 fn answer<D: SectorDisk, S: Overruns + KeyNotes, C: Clients>(
-    alloc: Global,
+    paper: &mut Paper,
     program: &Program,
     endpoint: &Endpoint<D>,
     controlled: &WireCounts,
@@ -115,23 +112,34 @@ fn answer<D: SectorDisk, S: Overruns + KeyNotes, C: Clients>(
     request: Request,
     clients: &mut C,
 ) -> Order
-    ensures { (talk : List Talk)
+    requires { paper.old ≡ blank report_room }
+    ensures answers { (talk : List Talk)
         × Answers (reports_of program.now (S.known system.now) (S.answers system.now) endpoint.now
         controlled.now common.now)
         client request talk result
         × InTurn C.does clients.old talk clients.new }
+    ensures room { paper.new.room ≡ report_room }
 {
     match request {
-        Request::Show => tell(clients, client, show_lines(alloc, endpoint)),
-        Request::Keys => tell(clients, client, keys_lines(alloc, endpoint.config())),
-        Request::Traffic => {
-            let report = traffic_lines(alloc, endpoint, program.last_good);
-            tell(clients, client, report)
+        Request::Show => {
+            show_lines(paper, endpoint);
+            tell(clients, client, paper)
         }
-        Request::About => tell(clients, client, about_lines(alloc, program)),
+        Request::Keys => {
+            keys_lines(paper, endpoint.config());
+            tell(clients, client, paper)
+        }
+        Request::Traffic => {
+            traffic_lines(paper, endpoint, program.last_good);
+            tell(clients, client, paper)
+        }
+        Request::About => {
+            about_lines(paper, program);
+            tell(clients, client, paper)
+        }
         Request::Counters => {
-            let report = counted(alloc, endpoint, controlled, common, system);
-            tell(clients, client, report)
+            count(paper, endpoint, controlled, common, system);
+            tell(clients, client, paper)
         }
         Request::Stop => {
             clients.say(client, DONE.as_bytes());
@@ -143,7 +151,7 @@ fn answer<D: SectorDisk, S: Overruns + KeyNotes, C: Clients>(
 
 /// Handles a line, and returns the desk's order.
 pub fn read<D: SectorDisk, S: Overruns + KeyNotes, C: Clients>(
-    alloc: Global,
+    paper: &mut Paper,
     program: &Program,
     endpoint: &Endpoint<D>,
     controlled: &WireCounts,
@@ -152,23 +160,21 @@ pub fn read<D: SectorDisk, S: Overruns + KeyNotes, C: Clients>(
     heard: &Heard,
     clients: &mut C,
 ) -> Order
-    ensures { (talk : List Talk)
+    requires { paper.old.room ≡ report_room }
+    ensures reads { (talk : List Talk)
         × Reads (reports_of program.now (S.known system.now) (S.answers system.now) endpoint.now
         controlled.now common.now)
         heard.now talk result
         × InTurn C.does clients.old talk clients.new }
+    ensures room { paper.new.room ≡ report_room }
 {
     let client = heard.client;
-    match request_of(alloc, heard.line.as_slice()) {
-        Ok(Some(request)) => answer(
-            alloc, program, endpoint, controlled, common, system, client, request, clients,
+    match request_of(paper, heard.line.as_slice()) {
+        Some(request) => answer(
+            paper, program, endpoint, controlled, common, system, client, request, clients,
         ),
-        Ok(None) => {
+        None => {
             clients.say(client, NO_REQUEST.as_bytes());
-            Order::Go
-        }
-        Err(_) => {
-            clients.say(client, NO_MEMORY.as_bytes());
             Order::Go
         }
     }

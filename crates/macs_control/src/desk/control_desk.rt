@@ -1,11 +1,11 @@
 //! The desk.
 
-ghost use Rattle.std.specs.Prelude.{◌≡◌, [], List};
+ghost use Rattle.std.specs.Prelude.{◌≡◌, [], List, IfOk};
 ghost use Rattle.macs_commands.specs.InTurn.{InTurn};
 ghost use Rattle.macs_commands.specs.Talks.{Note, Talk};
 ghost use Rattle.macs_control.specs.LastGood.{NotesGoodIf, good_after, good_frames};
 ghost use Rattle.macs_control.specs.Listening.{LooksIf, MeasuresIf, is_time, measured_of};
-ghost use Rattle.macs_control.specs.Listening.{reports_of};
+ghost use Rattle.macs_control.specs.Listening.{report_room, reports_of};
 ghost use Rattle.macs_control.specs.Listening.{said_of_ending, said_of_taking, turns_left};
 ghost use Rattle.macs_control.specs.Listening.{unanswered_after};
 ghost use Rattle.macs_rxsc.specs.Value as rxsc;
@@ -18,12 +18,13 @@ use crate::desk::metrics::measure;
 use crate::desk::overruns::Overruns;
 use crate::desk::replies::{ended, not_taken};
 use crate::desk::unanswered::{Submitted, Unanswered};
+use macs_commands::Paper;
 use macs_commands::requests::{Client, Clients, Metrics};
 use macs_disk::SectorDisk;
 use macs_edge::{CommandEnd, Counted, Desk, Order, Wire};
 use macs_endpoint::{Endpoint, SubmitFault, Ticket};
-use macs_texts::Program;
-use std::alloc::Global;
+use macs_texts::{Program, REPORT_ROOM};
+use std::alloc::{AllocError, Global};
 
 /// A desk that serves clients. It listens to them after each quiet turn, preceded by a sleep, and
 /// otherwise at each 64th turn, and then takes one line; after a command it listens again before
@@ -36,7 +37,8 @@ use std::alloc::Global;
 /// loses its answers, but none of its commands that were taken.
 #[derive(Drop)]
 pub struct ControlDesk<C, M, S> {
-    alloc: Global,
+    /// Where requests are compared and reports are written.
+    paper: Paper,
     program: Program,
     clients: C,
     metrics: M,
@@ -48,17 +50,27 @@ pub struct ControlDesk<C, M, S> {
     good: u64,
     /// How many turns may pass before it looks after its clients, if none of them is quiet.
     turns_left: u8,
+    ghost room: { paper.room ≡ report_room },
+}
+
+/// The paper of a desk, with room for each report. Fails if memory is refused.
+pub fn report_paper(alloc: Global) -> Result<Paper, AllocError>
+    ensures { IfOk result (λ paper. paper.room ≡ report_room) }
+{
+    Paper::new(alloc, REPORT_ROOM)
 }
 
 impl<C: Clients, M: Metrics, S: Overruns + KeyNotes> ControlDesk<C, M, S> {
-    /// A desk for this run of the program, with no unanswered command.
+    /// A desk for this run of the program, with no unanswered command. Its requests and reports
+    /// need no more memory than this paper.
     pub fn new(
-        alloc: Global,
+        paper: Paper,
         program: Program,
         clients: C,
         metrics: M,
         system: S,
     ) -> ControlDesk<C, M, S>
+        requires { paper.room ≡ report_room }
         ensures program { result.program ≡ program }
         ensures clients { result.clients ≡ clients }
         ensures metrics { result.metrics ≡ metrics }
@@ -68,7 +80,7 @@ impl<C: Clients, M: Metrics, S: Overruns + KeyNotes> ControlDesk<C, M, S> {
         ensures turns { result.turns_left ≡ 63 }
     {
         ControlDesk {
-            alloc,
+            paper,
             program,
             clients,
             metrics,
@@ -149,7 +161,7 @@ impl<
         let common = common.counts();
         rest(was_quiet, &mut self.clients);
         measure(
-            self.alloc,
+            &mut self.paper,
             &self.program.build,
             endpoint,
             &controlled,
@@ -158,7 +170,7 @@ impl<
             &mut self.metrics,
         );
         let order = look(
-            self.alloc,
+            &mut self.paper,
             &self.program,
             endpoint,
             &controlled,
@@ -173,7 +185,8 @@ impl<
     }
 
     fn took(&mut self, answer: Result<Ticket, SubmitFault>)
-        ensures talk { InTurn C.does self.old.clients (said_of_taking self.old.asking answer) self.new.clients }
+        ensures talk { InTurn C.does self.old.clients (said_of_taking self.old.asking answer)
+            self.new.clients }
         ensures program { self.new.program ≡ self.old.program }
         ensures system { self.new.system ≡ self.old.system }
         ensures metrics { self.new.metrics ≡ self.old.metrics }
@@ -194,7 +207,8 @@ impl<
     }
 
     fn answered(&mut self, ticket: Ticket, end: CommandEnd)
-        ensures talk { InTurn C.does self.old.clients (said_of_ending (entries_of self.old.unanswered) ticket end) self.new.clients }
+        ensures talk { InTurn C.does self.old.clients
+            (said_of_ending (entries_of self.old.unanswered) ticket end) self.new.clients }
         ensures program { self.new.program ≡ self.old.program }
         ensures system { self.new.system ≡ self.old.system }
         ensures metrics { self.new.metrics ≡ self.old.metrics }

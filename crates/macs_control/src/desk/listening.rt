@@ -3,18 +3,19 @@
 ghost use Rattle.std.specs.Prelude.{◌≡◌, List};
 ghost use Rattle.macs_commands.specs.InTurn.{InTurn};
 ghost use Rattle.macs_commands.specs.Talks.{Talk};
-ghost use Rattle.macs_control.specs.Listening.{Listens, Looks, is_time, reports_of, sleep_after};
+ghost use Rattle.macs_control.specs.Listening.{Listens, Looks, is_time, report_room, reports_of};
+ghost use Rattle.macs_control.specs.Listening.{sleep_after};
 ghost use Rattle.macs_control.specs.Listening.{turns_between};
 
 use crate::desk::answering::read;
 use crate::desk::key_notes::KeyNotes;
 use crate::desk::overruns::Overruns;
+use macs_commands::Paper;
 use macs_commands::requests::{Client, Clients};
 use macs_disk::SectorDisk;
 use macs_edge::{Order, WireCounts};
 use macs_endpoint::Endpoint;
 use macs_texts::Program;
-use std::alloc::Global;
 
 /// How many turns pass without a look at the clients, if none of them is quiet.
 pub const TURNS_BETWEEN: u8 = 63;
@@ -49,7 +50,7 @@ pub fn rest<C: Clients>(was_quiet: bool, clients: &mut C)
 /// Takes the next line of a client, if there is one, and handles it. Its client is then the asking
 /// client.
 fn listen<D: SectorDisk, S: Overruns + KeyNotes, C: Clients>(
-    alloc: Global,
+    paper: &mut Paper,
     program: &Program,
     endpoint: &Endpoint<D>,
     controlled: &WireCounts,
@@ -58,17 +59,19 @@ fn listen<D: SectorDisk, S: Overruns + KeyNotes, C: Clients>(
     clients: &mut C,
     asking: &mut Client,
 ) -> Order
-    ensures { (talk : List Talk)
+    requires { paper.old.room ≡ report_room }
+    ensures listens { (talk : List Talk)
         × Listens (reports_of program.now (S.known system.now) (S.answers system.now) endpoint.now
         controlled.now common.now)
         asking.old talk result asking.new
         × InTurn C.does clients.old talk clients.new }
+    ensures room { paper.new.room ≡ report_room }
 {
     match clients.hear() {
         Some(heard) => {
             *asking = heard.client;
             read(
-                alloc, program, endpoint, controlled, common, system, &heard, clients,
+                paper, program, endpoint, controlled, common, system, &heard, clients,
             )
         }
         None => Order::Go,
@@ -78,7 +81,7 @@ fn listen<D: SectorDisk, S: Overruns + KeyNotes, C: Clients>(
 /// Checks whether the process was asked to end, and listens, unless 16 commands are
 /// unanswered.
 pub fn look<D: SectorDisk, S: Overruns + KeyNotes, C: Clients>(
-    alloc: Global,
+    paper: &mut Paper,
     program: &Program,
     endpoint: &Endpoint<D>,
     controlled: &WireCounts,
@@ -88,12 +91,14 @@ pub fn look<D: SectorDisk, S: Overruns + KeyNotes, C: Clients>(
     clients: &mut C,
     asking: &mut Client,
 ) -> Order
-    ensures { (talk : List Talk)
+    requires { paper.old.room ≡ report_room }
+    ensures looks { (talk : List Talk)
         × Looks is_full
         (reports_of program.now (S.known system.now) (S.answers system.now) endpoint.now
         controlled.now common.now)
         asking.old talk result asking.new
         × InTurn C.does clients.old talk clients.new }
+    ensures room { paper.new.room ≡ report_room }
 {
     if clients.is_ended() {
         return Order::End;
@@ -102,6 +107,6 @@ pub fn look<D: SectorDisk, S: Overruns + KeyNotes, C: Clients>(
         return Order::Go;
     }
     listen(
-        alloc, program, endpoint, controlled, common, system, clients, asking,
+        paper, program, endpoint, controlled, common, system, clients, asking,
     )
 }

@@ -18,8 +18,8 @@ pub const DONE: &str = "end 0\n";
 /// The last line of the answer to a line that is not a request.
 pub const NO_REQUEST: &str = "end 2\n";
 
-/// The last line of the answer to a request for which memory ran out.
-pub const NO_MEMORY: &str = "end 5\n";
+/// The answer to a request whose report has more octets than there is room for.
+pub const TOO_LONG: &str = "end 5\n";
 
 /// An answer that is not allocated: a command that is kept is always reported.
 pub type Reply = ArrayVec<u8, 48>;

@@ -123,8 +123,8 @@ const NOT_SYNCED: Life = Ok((true, Some(7), false));
 /// What is answered where no call fails, and where this one does: the claim of the file, its size
 /// and the read of it; the write of the copy and its sync; the write of zeros and its sync; and of
 /// the disk the write, the read and the sync. Want of memory is reported where there is no disk
-/// yet, but for the calls that find out what the file has, and make the copy durable. An interrupted
-/// write or read is tried again. Each call after one that failed fails.
+/// yet, but for the calls that find out what the file has, and make the copy durable. An
+/// interrupted write or read is tried again. Each call after one that failed fails.
 const LIVES: [(ErrorKind, [Life; 11]); 3] = [
     (
         ErrorKind::Other,

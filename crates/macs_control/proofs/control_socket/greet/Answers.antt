@@ -9,7 +9,8 @@ returns-then-not-greet_one c =
     let mid = c.loop-place.seats in
     let new = c.greet_one.new.seats in
     let P : Bool → Type 0 = λ b. GreetsOne mid b new in
-    greets-over c.args.seats.now mid new c.loop-place.invariant.greets (subst P c.if-not-greet_one.true c.greet_one.ensures)
+    greets-over c.args.seats.now mid new c.loop-place.invariant.greets
+    (subst P c.if-not-greet_one.true c.greet_one.ensures)
 
 pub loop-place-preserved : goal.loop-place-preserved
 loop-place-preserved c =

@@ -4,7 +4,7 @@ use super::clients::Asker;
 use super::{attended, program};
 use macs_commands::requests::Metrics;
 use macs_config::Command;
-use macs_control::desk::{ControlDesk, Dropped, KeyNotes, NoteFault, Overruns, Time};
+use macs_control::desk::{ControlDesk, Dropped, KeyNotes, NoteFault, Overruns, Time, report_paper};
 use std::process::Abort;
 
 /// What was written. It is due `left` times more, and claims nothing.
@@ -142,7 +142,7 @@ fn metrics_are_written_where_they_are_due(rt: HostRuntime) {
         text: String::new(rt.alloc()),
     };
     let mut desk = ControlDesk::new(
-        rt.alloc(),
+        report_paper(rt.alloc()).expect(&rt, "memory"),
         program(&rt, rt.alloc()),
         Asker::new(&rt, rt.alloc(), "show"),
         metrics,

@@ -4,7 +4,9 @@ use super::clients::{Asker, expect_told};
 use super::{attended, program};
 use macs_commands::requests::NoMetrics;
 use macs_config::Command;
-use macs_control::desk::{ControlDesk, Dropped, KeyNotes, NoSystem, NoteFault, Overruns, Time};
+use macs_control::desk::{
+    ControlDesk, Dropped, KeyNotes, NoSystem, NoteFault, Overruns, Time, report_paper,
+};
 use macs_disk::MemDisk;
 use macs_edge::{Desk, MemWire};
 use macs_endpoint::SubmitFault;
@@ -23,7 +25,7 @@ fn refuse<K: Desk<MemDisk, MemWire<Global>, MemWire<Global>>>(desk: &mut K, faul
 
 fn is_told(rt: &impl Abort, alloc: Global, fault: SubmitFault, told: &str) {
     let mut desk = ControlDesk::new(
-        alloc,
+        report_paper(alloc).expect(rt, "memory"),
         program(rt, alloc),
         Asker::new(rt, alloc, "show"),
         NoMetrics,
@@ -74,7 +76,7 @@ const INSTALL: &str = "tx-install 0 000102030405060708090a0b0c0d0e0f 1 confident
 
 fn is_not_noted(rt: &impl Abort, alloc: Global, line: &'static str, fault: NoteFault, told: &str) {
     let mut desk = ControlDesk::new(
-        alloc,
+        report_paper(alloc).expect(rt, "memory"),
         program(rt, alloc),
         Asker::new(rt, alloc, line),
         NoMetrics,

@@ -3,7 +3,7 @@
 use super::clients::{Asker, expect_told};
 use super::{attended, program};
 use macs_commands::requests::NoMetrics;
-use macs_control::desk::{ControlDesk, NoSystem};
+use macs_control::desk::{ControlDesk, NoSystem, report_paper};
 use std::alloc::Global;
 use std::process::Abort;
 
@@ -30,7 +30,7 @@ sci-mode explicit\nencoding none\nspent tx 0 rx 0\n5 end 0\n",
 
 fn answers(rt: &impl Abort, alloc: Global, line: &'static str, told: &str) {
     let mut desk = ControlDesk::new(
-        alloc,
+        report_paper(alloc).expect(rt, "memory"),
         program(rt, alloc),
         Asker::new(rt, alloc, line),
         NoMetrics,

@@ -6,7 +6,7 @@ use crate::tests::endpoints::{OWN, command, formatted, number_of, opened};
 use macs_aes::Key;
 use macs_commands::requests::NoMetrics;
 use macs_config::Command;
-use macs_control::desk::{ControlDesk, Dropped, KeyNotes, NoteFault, Overruns, Time};
+use macs_control::desk::{ControlDesk, Dropped, KeyNotes, NoteFault, Overruns, Time, report_paper};
 use macs_disk::MemDisk;
 use macs_edge::{MemWire, attend};
 use macs_endpoint::Endpoint;
@@ -119,7 +119,7 @@ last-good 10
 #[test]
 fn what_frames_carried_is_told(rt: HostRuntime) {
     let mut desk = ControlDesk::new(
-        rt.alloc(),
+        report_paper(rt.alloc()).expect(&rt, "memory"),
         program(&rt, rt.alloc()),
         Asker::new(&rt, rt.alloc(), "traffic"),
         NoMetrics,

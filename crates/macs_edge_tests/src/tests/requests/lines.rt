@@ -2,7 +2,8 @@
 
 use crate::tests::endpoints::number_of;
 use macs_aes::Key;
-use macs_commands::requests::{Request, line_of_request, request_of_line};
+use macs_commands::Paper;
+use macs_commands::requests::{MAX_LINE, Request, request_of_line, write_request};
 use macs_config::{Command, SciMode, Validate};
 use macs_fields::Sci;
 use std::alloc::Global;
@@ -19,9 +20,12 @@ const SCI: Sci = Sci([0x12, 0x15, 0x35, 0x24, 0xc0, 0x89, 0x5e, 0x81]);
 
 /// The request is written as this line, and the line is read as it.
 fn stands_as(rt: &impl Abort, alloc: Global, request: Request, line: &str) {
-    let text = line_of_request(alloc, &request).ok().expect(rt, "memory");
-    assert!(rt; text.as_str() == line);
-    let found = request_of_line(alloc, line).ok().expect(rt, "memory");
+    let mut paper = Paper::new(alloc, MAX_LINE).expect(rt, "memory");
+    write_request(&mut paper, &request);
+    assert!(rt; paper.text() == Some(line.as_bytes()));
+    paper.clear();
+    assert!(rt; line.len() <= MAX_LINE);
+    let found = request_of_line(&mut paper, line);
     assert!(rt; found == Some(request));
 }
 

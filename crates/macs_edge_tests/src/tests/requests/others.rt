@@ -1,7 +1,7 @@
 //! Texts that are the line of no request.
 
-use macs_commands::requests::{Request, command_of_line, request_of_line};
-use macs_config::Command;
+use macs_commands::Paper;
+use macs_commands::requests::{MAX_LINE, Request, request_of_line};
 use std::alloc::Global;
 use std::process::Abort;
 
@@ -32,11 +32,11 @@ const OTHERS: [&str; 24] = [
     "tx-install 0 00090a0f1090a0f0ff0123456789abcd 1 confidential",
 ];
 
-/// The text is the line of no command, and of no other request.
+/// The text is the line of no request.
 fn is_none(rt: &impl Abort, alloc: Global, line: &str) {
-    let command: Option<Command> = command_of_line(alloc, line).ok().expect(rt, "memory");
-    assert!(rt; command.is_none());
-    let request: Option<Request> = request_of_line(alloc, line).ok().expect(rt, "memory");
+    let mut paper = Paper::new(alloc, MAX_LINE).expect(rt, "memory");
+    assert!(rt; line.len() <= MAX_LINE);
+    let request: Option<Request> = request_of_line(&mut paper, line);
     assert!(rt; request.is_none());
 }
 

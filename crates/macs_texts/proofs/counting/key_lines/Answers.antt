@@ -1,11 +1,7 @@
-use Rattle.std.proofs.Common.{string_bytes}
-use Rattle.std.proofs.lemmas.Result.{IfOk-weaker}
 use Rattle.macs_texts.proofs.Adding.{and_then}
 use Rattle.macs_texts.proofs.counting.key_lines.Goals as goal
 
 pub returns : goal.returns
-returns c = IfOk-weaker c.count-2.result _ _
-    (λ _ is. and_then (string_bytes c.args.report.now.text) (string_bytes c.count.new.self.text)
-    (string_bytes c.count-2.new.self.text) _ _
-    (rw (c.keys_left.ensures, c.spent_tx.ensures) at c.in_ok-count.ensures)
-    (rw (c.keys_left-2.ensures, c.spent_rx.ensures) at is)) c.count-2.ensures
+returns c = and_then c.args.paper.now c.count_line.new.paper c.count_line-2.new.paper _ _
+    (rw (c.keys_left.ensures, c.spent_tx.ensures) at c.count_line.ensures)
+    (rw (c.keys_left-2.ensures, c.spent_rx.ensures) at c.count_line-2.ensures)

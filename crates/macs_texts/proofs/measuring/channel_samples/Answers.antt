@@ -1,19 +1,14 @@
-use Rattle.std.proofs.Common.{refl, string_bytes}
+use Rattle.std.proofs.Common.{refl}
 use Rattle.macs_rxsc.specs.Value.{channel_counters_of}
 use Rattle.macs_texts.specs.Counting.{channel_verdicts}
-use Rattle.macs_texts.specs.Measuring.{channel_sample}
+use Rattle.macs_texts.specs.Measuring.{channel_sample, own_label}
 use Rattle.macs_texts.proofs.Adding.{next-item}
 use Rattle.macs_texts.proofs.measuring.channel_samples.Goals as goal
 
 pub loop-verdict-preserved : goal.loop-verdict-preserved
 loop-verdict-preserved g c =
-    next-item (channel_sample c.args.own.now (channel_counters_of c.args.endpoint.now.rx) c.args.sci) channel_verdicts 7
-    c.loop-verdict.verdict-index _ _ (string_bytes c.args.report.now.text) (string_bytes c.loop-verdict.report.text)
-    (string_bytes c.sample_of.new.report.text) refl c.loop-verdict-test.true refl c.loop-verdict.invariant
-    (rw (
-      c.as_str.ensures.value,
-      c.in_ok-labels.ensures,
-      c.verdict_words.ensures,
-      c.channel-count.ensures,
-      c.counters-counters.ensures.rx,
-    ) at c.in_ok-sample_of.ensures)
+    next-item (channel_sample (own_label c.args.own) (channel_counters_of c.args.endpoint.now.rx) c.args.sci)
+    channel_verdicts 7 c.loop-verdict.verdict-index _ _ c.args.paper.now c.loop-verdict.paper
+    c.channel_sample_of.new.paper refl c.loop-verdict-test.true refl c.loop-verdict.invariant
+    (rw (c.verdict_words.ensures, c.channel-count.ensures, c.counters-counters.ensures.rx)
+    at c.channel_sample_of.ensures)

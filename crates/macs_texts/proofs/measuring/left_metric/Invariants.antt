@@ -2,10 +2,10 @@ use Rattle.std.proofs.Common.{take}
 use Rattle.std.specs.Prelude.{flat_map}
 use Rattle.macs_endpoint.specs.State.{no_logs}
 use Rattle.macs_endpoint.specs.Value.{state_of}
-use Rattle.macs_texts.specs.Measuring.{left_sample}
-use Rattle.macs_texts.specs.Reports.{Adds}
+use Rattle.macs_texts.specs.Measuring.{left_sample, own_label}
+use Rattle.macs_commands.specs.Papers.{Writes}
 use Rattle.macs_texts.proofs.measuring.left_metric.Given as goal
 
 abbrev pub invariant-loop-an : goal.invariant-loop-an
-invariant-loop-an g l = Adds l.initial.report l.report
-    (flat_map (left_sample l.own (state_of l.endpoint no_logs)) (take l.an-index l.an-items))
+invariant-loop-an g l = Writes l.initial.paper l.paper
+    (flat_map (left_sample (own_label l.own) (state_of l.endpoint no_logs)) (take l.an-index l.an-items))

@@ -1,8 +1,8 @@
-use Rattle.std.proofs.Common.{◌∙◌, ℕ, List, ◌++◌, ap, string_bytes}
-use Rattle.std.proofs.lemmas.Result.{IfOk-weaker}
+use Rattle.std.proofs.Common.{◌∙◌, ℕ, List, ap}
 use Rattle.macs_config.specs.Value.{config_of}
 use Rattle.macs_endpoint.specs.State.{State, no_logs}
 use Rattle.macs_endpoint.specs.Value.{state_of}
+use Rattle.macs_commands.specs.Papers.{written}
 use Rattle.macs_texts.proofs.Adding.{nothing}
 use Rattle.macs_texts.proofs.Shown.{tx-none, tx-some}
 use Rattle.macs_texts.proofs.showing.tx_text.Goals as goal
@@ -10,13 +10,12 @@ use Rattle.macs_texts.proofs.showing.tx_text.Goals as goal
 pub returns-in_default : goal.returns-in_default
 returns-in_default g c =
     let s : State = state_of c.args.endpoint.now no_logs in
-    nothing (string_bytes c.args.report.now.text) _
+    nothing c.args.paper.now _
     (tx-none s (config_of c.config.result.now) c.args.an c.config.ensures.config c.in_default.ensures)
 
 pub returns : goal.returns
 returns g c =
     let s : State = state_of c.args.endpoint.now no_logs in
-    IfOk-weaker c.tx_line.result _ _
-    (λ _ is. is ∙ ap (λ (lines : List ℕ). string_bytes c.args.report.now.text ++ lines)
+    c.tx_line.ensures ∙ ap (λ (lines : List ℕ). written c.args.paper.now lines)
     (tx-some s (config_of c.config.result.now) c.args.an c.in-Some.sa c.in-Some-next_number.next
-    c.config.ensures.config c.in-Some.ensures c.in-Some-next_number.ensures)) c.tx_line.ensures
+    c.config.ensures.config c.in-Some.ensures c.in-Some-next_number.ensures)

@@ -4,7 +4,8 @@ use Rattle.toml.specs.Data.{array}
 use Rattle.toml.specs.View.{table_view}
 use Rattle.macs_config.specs.declared.command.Command.{Command}
 use Rattle.macs_commands.specs.Writing.{file_of, tables_of}
-use Rattle.macs_commands.proofs.FileText.{AllRead, end_read, file_depth, file_read, file_seen, read_more, says, tables_more}
+use Rattle.macs_commands.proofs.FileText.{AllRead, end_read, file_depth, file_read, file_seen, read_more, says}
+use Rattle.macs_commands.proofs.FileText.{tables_more}
 use Rattle.macs_commands.proofs.files.writing.command_file_text.Goals as goal
 
 pub loop-i-preserved : goal.loop-i-preserved

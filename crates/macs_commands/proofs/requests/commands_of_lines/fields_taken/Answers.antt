@@ -15,7 +15,8 @@ use Rattle.macs_commands.proofs.requests.commands_of_lines.fields_taken.Goals as
 
 pub returns-in-SetValidate : goal.returns-in-SetValidate
 returns-in-SetValidate c = λ command told same is.
-    for_word words.SetValidate (λ (x : Command). IsTold x → c.args.text.now ≡ fields_of x → SetValidate c.unwrap_or.result ≡ x)
+    for_word words.SetValidate (λ (x : Command). IsTold x → c.args.text.now ≡ fields_of x
+    → SetValidate c.unwrap_or.result ≡ x)
     (λ mode told is.
     let read = c.unwrap_or.ensures ∙ ap (λ (o : Option Validate). unwrap_or o Strict)
     (c.validate_of.ensures ∙ validate_said mode c.args.text.now is) in cc)
@@ -29,7 +30,8 @@ returns-in-SetReplay c = λ command told same is.
 
 pub returns-in-SetSciMode : goal.returns-in-SetSciMode
 returns-in-SetSciMode c = λ command told same is.
-    for_word words.SetSciMode (λ (x : Command). IsTold x → c.args.text.now ≡ fields_of x → SetSciMode c.unwrap_or-in-SetSciMode.result ≡ x)
+    for_word words.SetSciMode (λ (x : Command). IsTold x → c.args.text.now ≡ fields_of x
+    → SetSciMode c.unwrap_or-in-SetSciMode.result ≡ x)
     (λ mode told is.
     let read = c.unwrap_or-in-SetSciMode.ensures ∙ ap (λ (o : Option SciMode). unwrap_or o Explicit)
     (c.sci_mode_of.ensures ∙ sci_mode_said mode c.args.text.now is) in cc)
@@ -49,7 +51,8 @@ returns-in-TxUse c = λ command told same is.
 
 pub returns-in-TxRemove : goal.returns-in-TxRemove
 returns-in-TxRemove c = λ command told same is.
-    for_word words.TxRemove (λ (x : Command). IsTold x → c.args.text.now ≡ fields_of x → TxRemove c.an-in-TxRemove.result ≡ x)
+    for_word words.TxRemove (λ (x : Command). IsTold x → c.args.text.now ≡ fields_of x
+    → TxRemove c.an-in-TxRemove.result ≡ x)
     (λ an told is. let read = c.an-in-TxRemove.ensures an told.0 is in cc)
     command (sym c.in-TxRemove.is ∙ same) told is
 
@@ -61,7 +64,8 @@ returns-in-RxAdd c = λ command told same is.
 
 pub returns-in-RxDrop : goal.returns-in-RxDrop
 returns-in-RxDrop c = λ command told same is.
-    for_word words.RxDrop (λ (x : Command). IsTold x → c.args.text.now ≡ fields_of x → RxDrop c.sci-in-RxDrop.result ≡ x)
+    for_word words.RxDrop (λ (x : Command). IsTold x → c.args.text.now ≡ fields_of x
+    → RxDrop c.sci-in-RxDrop.result ≡ x)
     (λ sci told is. let read = c.sci-in-RxDrop.ensures sci told.0 is in cc)
     command (sym c.in-RxDrop.is ∙ same) told is
 

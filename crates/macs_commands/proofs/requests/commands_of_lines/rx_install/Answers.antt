@@ -15,14 +15,17 @@ returns c = λ sci an key start offset told is.
     let after_key : List ℕ = spaced (decimal start) (decimal offset) in
     let after_an : List ℕ = spaced (key_digits key) after_key in
     let after_sci : List ℕ = spaced (decimal an) after_an in
-    let a = cut_at c.args.text.now first.word.now first.rest.now (encode_lower sci) after_sci c.split_word-first.ensures is
+    let a =
+    cut_at c.args.text.now first.word.now first.rest.now (encode_lower sci) after_sci c.split_word-first.ensures is
     (sci_lacks sci told.0.0) in
     let b = cut_at first.rest.now second.word.now second.rest.now (decimal an) after_an c.split_word-second.ensures a.1
     (decimal_lacks an (omega (arith, told.0.1))) in
-    let d = cut_at second.rest.now third.word.now third.rest.now (key_digits key) after_key c.split_word-third.ensures b.1
+    let d =
+    cut_at second.rest.now third.word.now third.rest.now (key_digits key) after_key c.split_word-third.ensures b.1
     (key_lacks key told.0.2 told.1) in
     let e =
-    cut_at third.rest.now fourth.word.now fourth.rest.now (decimal start) (decimal offset) c.split_word-fourth.ensures d.1
+    cut_at third.rest.now fourth.word.now fourth.rest.now (decimal start) (decimal offset)
+    c.split_word-fourth.ensures d.1
     (decimal_lacks start (omega (arith, told.0.3))) in
     let sci_is = c.sci.ensures sci told.0.0 a.0 in
     let an_is = c.an.ensures an told.0.1 b.0 in

@@ -17,9 +17,11 @@ returns c = λ an key start confidential offset told is.
     let after_an : List ℕ = spaced (key_digits key) after_key in
     let a = cut_at c.args.text.now first.word.now first.rest.now (decimal an) after_an c.split_word-first.ensures is
     (decimal_lacks an (omega (arith, told.0.0))) in
-    let b = cut_at first.rest.now second.word.now second.rest.now (key_digits key) after_key c.split_word-second.ensures a.1
+    let b =
+    cut_at first.rest.now second.word.now second.rest.now (key_digits key) after_key c.split_word-second.ensures a.1
     (key_lacks key told.0.1 told.1) in
-    let d = cut_at second.rest.now third.word.now third.rest.now (decimal start) after_start c.split_word-third.ensures b.1
+    let d =
+    cut_at second.rest.now third.word.now third.rest.now (decimal start) after_start c.split_word-third.ensures b.1
     (decimal_lacks start (omega (arith, told.0.2))) in
     let e = cut_at third.rest.now fourth.word.now fourth.rest.now (protection_word confidential) (decimal offset)
     c.split_word-fourth.ensures d.1 (protection_lacks confidential) in

@@ -21,4 +21,5 @@ from_utf8_unchecked-requires c =
     let ascii = IsAscii-encode_with lower_digits c.args.octets.now digits_are in
     let len : length c.write_digits.new.digits ≡ c.in_ok-digits.digits.len = omega arith in
     let text = IsUtf8-from_ascii _ (rw (← c.write_digits.ensures) at ascii) in
-    rw (take_at c.write_digits.new.digits (drop (length c.write_digits.new.digits) c.in_ok-digits.digits.items) c.in_ok-digits.digits.len len) text
+    rw (take_at c.write_digits.new.digits (drop (length c.write_digits.new.digits) c.in_ok-digits.digits.items)
+    c.in_ok-digits.digits.len len) text

@@ -17,7 +17,8 @@ returns-then-is_some-clause-heard g c =
     let P : ℕ → Type 0 = λ n. HearsOne link n (take loop.at (places_of loop.self)) h.0
     (drop (loop.at + 1) (places_of loop.self)) heard new in
     let some : is_some heard ≡ true = search (rules, c.if-is_some.true, c.is_some.ensures) in
-    some-next link (second_of old) (places_of old) (places_of loop.self) loop._place loop.at loop.invariant.so_far h.0 h.1
+    some-next link (second_of old) (places_of old) (places_of loop.self) loop._place loop.at
+    loop.invariant.so_far h.0 h.1
     heard new some (subst P loop.invariant.counts.0 h.2)
 
 pub loop-place-preserved : goal.loop-place-preserved
@@ -46,7 +47,8 @@ loop-place-preserved g c =
               now.places.ok.0,
               loop.self.places.ok.0,
             ) in
-            subst Q (sym w.at-is) (stays-next link (second_of old) (places_of old) (places_of loop.self) loop._place loop.at
+            subst Q (sym w.at-is)
+            (stays-next link (second_of old) (places_of old) (places_of loop.self) loop._place loop.at
             loop.invariant.so_far h.0 h.1 new quiet same)
         | else-len-before w ↦
             let other : length new ≡ length (places_of loop.self) → ⊥ = λ same. absurd (omega (
@@ -57,7 +59,8 @@ loop-place-preserved g c =
               now.places.ok.0,
               loop.self.places.ok.0,
             )) in
-            subst Q (sym w.at-is) (goes-next link (second_of old) (places_of old) (places_of loop.self) loop._place loop.at
+            subst Q (sym w.at-is)
+            (goes-next link (second_of old) (places_of old) (places_of loop.self) loop._place loop.at
             loop.invariant.so_far h.0 h.1 new quiet other)
       ];
       counts = (counts.0 ∙ loop.invariant.counts.0, counts.1 ∙ loop.invariant.counts.1);

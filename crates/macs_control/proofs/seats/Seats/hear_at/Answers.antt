@@ -28,7 +28,8 @@ returns-in-Line-clause-heard g c =
       (
         looked,
         subst P c.in-Line.is c.hear-heard.ensures,
-        c.client-client.ensures ∙ ap (λ (p : Place g.row.S.Denot). client_of (seat_in p)) same ∙ c.hear-heard.ensures.client,
+        c.client-client.ensures ∙ ap (λ (p : Place g.row.S.Denot). client_of (seat_in p)) same
+            ∙ c.hear-heard.ensures.client,
         moved-last old at place looked c.requires c.index_mut.ensures.value moved.0 moved.1 _ moved.2,
       ),
     )

@@ -1,7 +1,4 @@
-use Rattle.std.proofs.Common.{◌∙◌, subst}
-use Rattle.macs_edge.specs.Attending.{IsAttended}
-use Rattle.macs_edge.specs.Relaying.{empty_lane, relay_of}
-use Rattle.macs_edge.specs.Wires.{WireState}
+use Rattle.std.proofs.Common.{◌∙◌}
 use Rattle.macs_program.proofs.Relayed.{between-new}
 use Rattle.macs_program.proofs.wires.Wires.relay.Goals as goal
 

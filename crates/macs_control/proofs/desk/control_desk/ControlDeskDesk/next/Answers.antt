@@ -9,22 +9,24 @@ pub returns-clause-talk : goal.returns-clause-talk
 returns-clause-talk g c =
     let time : is_time c.args.was_quiet c.args.self.now.turns_left ≡ true =
     sym c.is_time.ensures ∙ c.if-not-is_time.false in
-    looks-in-time g.C.Clients.does _ c.args.was_quiet (is_full (entries_of c.args.self.now.unanswered)) c.is_full.result _ _ _ _ _
+    looks-in-time g.C.Clients.does _ c.args.was_quiet (is_full (entries_of c.args.self.now.unanswered))
+    c.is_full.result _ _ _ _ _
     c.args.self.now.clients c.rest.new.clients c.look-order.new.clients time c.is_full.ensures.full
     (same-reports c.note_good.new.program (g.S.Overruns.known c.args.self.now.system)
     (g.S.KeyNotes.answers c.args.self.now.system) c.args.endpoint.now _ _ _ _ c.counts-controlled.ensures
     c.counts-common.ensures)
-    c.rest.ensures c.look-order.ensures
+    c.rest.ensures c.look-order.ensures.looks
 
 pub returns-clause-notes : goal.returns-clause-notes
 returns-clause-notes g c =
     let time : is_time c.args.was_quiet c.args.self.now.turns_left ≡ true =
     sym c.is_time.ensures ∙ c.if-not-is_time.false in
-    measures-in-time g.M.Metrics.does _ (g.S.Overruns.known c.args.self.now.system) _ _ c.args.self.now.metrics c.measure.new.metrics time
+    measures-in-time g.M.Metrics.does _ (g.S.Overruns.known c.args.self.now.system) _ _ c.args.self.now.metrics
+    c.measure.new.metrics time
     (ap (λ (p : Program). measured_of p.build c.args.endpoint.now c.counts-controlled.result c.counts-common.result)
     c.note_good.ensures.same
     ∙ same-measured c.args.self.now.program.build c.args.endpoint.now _ _ _ _ c.counts-controlled.ensures
-    c.counts-common.ensures) c.measure.ensures
+    c.counts-common.ensures) c.measure.ensures.notes
 
 pub returns-clause-hears : goal.returns-clause-hears
 returns-clause-hears g c =
