@@ -20,12 +20,12 @@ const SCI: Sci = Sci([0x12, 0x15, 0x35, 0x24, 0xc0, 0x89, 0x5e, 0x81]);
 
 /// The request is written as this line, and the line is read as it.
 fn stands_as(rt: &impl Abort, alloc: Global, request: Request, line: &str) {
-    let mut paper = Paper::new(alloc, MAX_LINE).expect(rt, "memory");
-    write_request(&mut paper, &request);
-    assert!(rt; paper.text() == Some(line.as_bytes()));
-    paper.clear();
+    let mut written = Paper::new(alloc, MAX_LINE).expect(rt, "memory");
+    write_request(&mut written, &request);
+    assert!(rt; written.text() == Some(line.as_bytes()));
+    let mut blank = Paper::new(alloc, MAX_LINE).expect(rt, "memory");
     assert!(rt; line.len() <= MAX_LINE);
-    let found = request_of_line(&mut paper, line);
+    let found = request_of_line(&mut blank, line);
     assert!(rt; found == Some(request));
 }
 
