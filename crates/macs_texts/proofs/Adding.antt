@@ -42,6 +42,14 @@ looped {X = X} f xs count i front before after lines counted end so_far added =
     ∙ written_both front lines (flat_map f (take i xs))
     ∙ ap (λ (t : List X). written front (lines ++ flat_map f t)) (take_all i xs past)
 
+-- one text after another, for search
+pub joined : (sheet : Sheet) (front back : List ℕ) → written (written sheet front) back ≡ written sheet (front ++ back)
+joined = written_both
+
+-- no text, for search
+pub empty : (sheet : Sheet) → written sheet [] ≡ sheet
+empty = written_none
+
 -- lines, and then more
 pub and_then : (front before after : Sheet) (lines more : List ℕ) → Writes front before lines
     → Writes before after more → Writes front after (lines ++ more)

@@ -1,4 +1,5 @@
 //! The counters of an endpoint and of its wires, as text.
+#![tactic(auto, using(crate::proofs::Adding::joined, crate::proofs::Adding::empty))]
 
 ghost use Rattle.std.specs.Prelude.{◌≡◌, ◌-◌, ◌^◌, flat_map};
 ghost use Rattle.std.specs.Option.{option_map};

@@ -1,4 +1,5 @@
 //! Identifiers for keys that must not be shown.
+#![tactic(auto, using(crate::proofs::Adding::joined, crate::proofs::Adding::empty))]
 
 ghost use Rattle.std.specs.Prelude.{◌≡◌};
 ghost use Rattle.macs_commands.specs.Papers.{Writes};

@@ -1,4 +1,5 @@
 //! Which keys are installed, as text.
+#![tactic(auto, using(crate::proofs::Adding::joined, crate::proofs::Adding::empty))]
 
 ghost use Rattle.std.specs.Prelude.{flat_map};
 ghost use Rattle.macs_commands.specs.Papers.{Writes};

@@ -1,5 +1,5 @@
 //! What an endpoint and its wires report, as text.
-#![tactic(auto, using(crate::proofs::Adding::one_more, macs_commands::proofs::Written::written_both, macs_commands::proofs::Written::written_none))]
+#![tactic(auto)]
 
 mod build;
 mod counting;

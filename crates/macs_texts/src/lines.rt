@@ -1,4 +1,5 @@
 //! Lines on a paper, and the names of channels and associations in them.
+#![tactic(auto, using(crate::proofs::Adding::joined, crate::proofs::Adding::empty))]
 
 ghost use Rattle.std.specs.Prelude.{◌++◌, codes};
 ghost use Rattle.std.specs.Fmt.{decimal};

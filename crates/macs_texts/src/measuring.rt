@@ -1,4 +1,5 @@
 //! The counters of an endpoint and of its wires, for a metrics collector.
+#![tactic(auto, using(crate::proofs::Adding::joined, crate::proofs::Adding::empty))]
 
 ghost use Rattle.std.specs.Prelude.{◌++◌, codes, flat_map, string_bytes};
 ghost use Rattle.macs_commands.specs.Papers.{Writes};

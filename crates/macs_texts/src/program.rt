@@ -1,4 +1,5 @@
 //! A run of the program.
+#![tactic(auto, using(crate::proofs::Adding::joined, crate::proofs::Adding::empty))]
 
 ghost use Rattle.macs_commands.specs.Papers.{Writes};
 ghost use Rattle.macs_texts.specs.Programs.{about_text};

@@ -1,4 +1,5 @@
 //! Metrics and their samples, as lines for a metrics collector.
+#![tactic(auto, using(crate::proofs::Adding::joined, crate::proofs::Adding::empty))]
 
 ghost use Rattle.std.specs.Prelude.{◌++◌, codes};
 ghost use Rattle.std.specs.Fmt.{decimal};
