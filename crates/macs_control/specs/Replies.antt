@@ -14,7 +14,7 @@ use Rattle.macs_control.specs.declared.desk.key_notes.NoteFault.{NoteFault}
 use Rattle.macs_control.specs.declared.desk.key_notes.NoteFault.TheVariants as note
 
 -- the last line of an answer: 0 if the request is done, 2 if the line is not a request, 3 if a command is refused, 4 if
--- the disk failed, 5 if memory ran out
+-- it is not kept, not taken, or its key cannot be noted, 5 if a report is too long
 abbrev pub end_text : ℕ → List ℕ
 end_text status = line (end_line status)
 

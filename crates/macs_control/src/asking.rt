@@ -90,6 +90,7 @@ impl<S: Connection> Asker<S> {
             (conversation_of S.link self.new)) }
         ensures cut { IfErr result (λ fault. SendsSome (conversation_of S.link self.old) line.now
             (conversation_of S.link self.new)) }
+        ensures gone { IfErr result (λ fault. fault ≡ AskFault.Gone) }
     {
         if self.relay.try_send(line) {
             return Ok(());

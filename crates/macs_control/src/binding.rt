@@ -21,7 +21,7 @@ const WAITING: i32 = 16;
 /// What is found at the name of a socket.
 #[derive(Clone, Copy, Debug, PartialEq, Eq)]
 pub enum Reach {
-    /// Nothing, or a name that the system rejects.
+    /// Nothing.
     Nothing,
     /// The socket of a program that ended.
     Stale,

@@ -258,13 +258,13 @@ impl<T: Files> KeyList<'_, T> {
     }
 
     /// Notes the keys that these commands install, durably, unless an endpoint that is gone was
-    /// given one of them; then none is noted.
+    /// given one of them; then none is noted. Commands that install none need no memory.
     pub fn note(&self, commands: &[Command]) -> Result<(), KeyFault> {
-        let keys = digits_of_each(self.alloc, commands)?;
-        let lines = lines_of(self.alloc, keys.as_slice())?;
-        if lines.is_empty() {
+        if commands.iter().all(|command| key_in(command).is_none()) {
             return Ok(());
         }
+        let keys = digits_of_each(self.alloc, commands)?;
+        let lines = lines_of(self.alloc, keys.as_slice())?;
         let name = self.name()?;
         let list = read_list(self.rt, self.alloc, name.as_str())?;
         if first_spent(list.as_str(), keys.as_slice()).is_some() {

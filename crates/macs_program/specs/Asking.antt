@@ -117,8 +117,8 @@ is_of_endpoint text = starts_with nat_eq text sci_word
 abbrev pub failure_of_other : List ℕ → Failure
 failure_of_other text = if is_of_endpoint text then failures.Commands else failures.Control
 
--- what the status of an answer means if the request was not carried out: the relay ended, it had no memory, or the
--- answer is invalid
+-- what the status of an answer means if the request was not carried out: the relay ended or did not take it, there is
+-- no room for the report, or the answer is invalid
 abbrev pub failure_in : ℕ → Failure
 failure_in status = if status == 4 then failures.Disk (disk.Journal journal.Stopped)
     else (if status == 5 then failures.Memory else failures.Control)

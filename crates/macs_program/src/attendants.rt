@@ -52,8 +52,10 @@ fn desk_over<'a, T: Files + Net + Clock>(
 ) -> Result<SystemDesk<'a, T>, Failure>
     ensures { IfErr result (λ failure. (failure ≡ Failure.Memory) ⊎ (failure ≡ Failure.Control)) }
 {
-    let clients = clients_for(rt, alloc, running, wires)?;
     let program = this_program(rt, alloc)?;
+    let paper = report_paper(alloc)?;
+    // The last thing that can fail: a name that is bound is removed at the end of the relay.
+    let clients = clients_for(rt, alloc, running, wires)?;
     let keys = KeyList { rt, alloc, disk };
     let system = RelaySystem {
         rt,
@@ -61,7 +63,6 @@ fn desk_over<'a, T: Files + Net + Clock>(
         wires,
         keys,
     };
-    let paper = report_paper(alloc)?;
     Ok(ControlDesk::new(paper, program, clients, metrics, system))
 }
 
