@@ -83,7 +83,7 @@ pub fn bind_wires<N: Net>(
 impl Wires {
     ghost use Rattle.std.specs.Prelude.{◌≡◌, IfSome, List, Result};
     ghost use Rattle.macs_edge.specs.Attending.{IsAttended};
-ghost use Rattle.macs_commands.specs.InTurn.{InTurn};
+    ghost use Rattle.macs_commands.specs.InTurn.{InTurn};
     ghost use Rattle.macs_edge.specs.Relaying.{empty_lane, relay_of};
     ghost use Rattle.macs_edge.specs.Wires.{WireState};
     ghost use Rattle.macs_edge.specs.declared.attending.DeskEvent.{DeskEvent};
