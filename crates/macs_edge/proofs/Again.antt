@@ -33,6 +33,7 @@ use Rattle.macs_endpoint.specs.Rooms.{IsEncodingAn}
 use Rattle.macs_endpoint.specs.State.{Advanced, AdvancedLong, Call, Logs, Protected, Protects, Ran, Received, Receives}
 use Rattle.macs_endpoint.specs.State.{Refilled, Refills, RefusedLong, Reply, State, Submitted, no_logs, rx_side}
 use Rattle.macs_endpoint.specs.State.{tx_side}
+use Rattle.macs_endpoint.specs.State.{Rested}
 use Rattle.macs_endpoint.specs.Step.{ArriveStep, IsStopped, RunningStep, Step, state_after_delivery, state_after_hold}
 use Rattle.macs_endpoint.specs.Value.{EndpointValue, IsSoundEndpoint, state_of}
 use Rattle.macs_endpoint.specs.declared.fault.ProtectFault.TheVariants as protect
@@ -230,6 +231,7 @@ module _ (s : State) (frame : List ℕ) (a : Arrival) (arrives : Arrives (rx_sid
   step-again (Received (Err stopped) out) passed t settles step = absurd settles
   step-again (Ran result) passed t settles step = absurd settles
   step-again (Refilled result) passed t settles step = absurd settles
+  step-again (Rested result) passed t settles step = absurd settles
   step-again (Submitted result) passed t settles step = absurd settles
   step-again (Advanced result) passed t settles step = absurd settles
   step-again RefusedLong passed t settles step = absurd settles
@@ -257,6 +259,7 @@ waits_how (Received (Ok (Discarded reason)) out) waits = absurd waits
 waits_how (Received (Err stopped) out) waits = absurd waits
 waits_how (Ran result) waits = absurd waits
 waits_how (Refilled result) waits = absurd waits
+waits_how (Rested result) waits = absurd waits
 waits_how (Submitted result) waits = absurd waits
 waits_how (Advanced result) waits = absurd waits
 waits_how RefusedLong waits = absurd waits
@@ -492,6 +495,7 @@ module _ {D : Type 0} (disk_of : D → Disk) where
       never (Received result out) s run = s
       never (Ran result) s run = s
       never (Refilled result) s run = s
+      never (Rested result) s run = s
       never (Submitted result) s run = s
       never (Advanced result) s run = s
       never RefusedLong s run = s
@@ -507,6 +511,7 @@ module _ {D : Type 0} (disk_of : D → Disk) where
       never (Protected result out) s run = s
       never (Ran result) s run = s
       never (Refilled result) s run = s
+      never (Rested result) s run = s
       never (Submitted result) s run = s
       never (Advanced result) s run = s
       never RefusedLong s run = s

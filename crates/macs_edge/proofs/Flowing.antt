@@ -11,6 +11,7 @@ use Rattle.macs_endpoint.specs.Calls.{IsCall}
 use Rattle.macs_endpoint.specs.Lives.{Lives, Transition}
 use Rattle.macs_endpoint.specs.State.{Advanced, AdvancedLong, Advances, Call, Protected, Protects, Ran, Received}
 use Rattle.macs_endpoint.specs.State.{Receives, Refilled, RefusedLong, Reply, Submitted}
+use Rattle.macs_endpoint.specs.State.{Rested}
 use Rattle.macs_endpoint.specs.Step.{IsStopped}
 use Rattle.macs_endpoint.specs.Value.{EndpointValue}
 use Rattle.macs_endpoint.specs.declared.fault.ProtectFault.TheVariants as protect
@@ -126,6 +127,7 @@ given-passed (Received (Ok HeldBack) o) out settles = absurd settles
 given-passed (Received (Err stopped) o) out settles = absurd settles
 given-passed (Ran result) out settles = absurd settles
 given-passed (Refilled result) out settles = absurd settles
+given-passed (Rested result) out settles = absurd settles
 given-passed (Submitted result) out settles = absurd settles
 given-passed (Advanced result) out settles = absurd settles
 given-passed RefusedLong out settles = absurd settles
@@ -140,6 +142,7 @@ given-dropped (Received (Ok HeldBack) o) settles = refl
 given-dropped (Received (Err stopped) o) settles = refl
 given-dropped (Ran result) settles = refl
 given-dropped (Refilled result) settles = refl
+given-dropped (Rested result) settles = refl
 given-dropped (Submitted result) settles = refl
 given-dropped (Advanced result) settles = refl
 given-dropped RefusedLong settles = refl
@@ -154,6 +157,7 @@ given-waits (Received (Ok HeldBack) o) waits = refl
 given-waits (Received (Err stopped) o) waits = refl
 given-waits (Ran result) waits = refl
 given-waits (Refilled result) waits = refl
+given-waits (Rested result) waits = refl
 given-waits (Submitted result) waits = refl
 given-waits (Advanced result) waits = refl
 given-waits RefusedLong waits = refl
@@ -166,6 +170,7 @@ given-stopped Controlled frame (Protected (Err fault) o) stopped = refl
 given-stopped Controlled frame (Received result o) stopped = absurd stopped
 given-stopped Controlled frame (Ran result) stopped = refl
 given-stopped Controlled frame (Refilled result) stopped = refl
+given-stopped Controlled frame (Rested result) stopped = refl
 given-stopped Controlled frame (Submitted result) stopped = refl
 given-stopped Controlled frame (Advanced result) stopped = refl
 given-stopped Controlled frame RefusedLong stopped = refl
@@ -175,6 +180,7 @@ given-stopped Common frame (Received (Err s) o) stopped = refl
 given-stopped Common frame (Protected result o) stopped = absurd stopped
 given-stopped Common frame (Ran result) stopped = refl
 given-stopped Common frame (Refilled result) stopped = refl
+given-stopped Common frame (Rested result) stopped = refl
 given-stopped Common frame (Submitted result) stopped = refl
 given-stopped Common frame (Advanced result) stopped = refl
 given-stopped Common frame RefusedLong stopped = refl

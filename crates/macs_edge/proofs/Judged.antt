@@ -7,6 +7,7 @@ use Rattle.macs_rxsc.specs.declared.verdict.Verdict.{Verdict}
 use Rattle.macs_rxsc.specs.declared.verdict.Verdict.TheVariants.{Delivered, Discarded, HeldBack}
 use Rattle.macs_endpoint.specs.State.{Advanced, AdvancedLong, Logs, Protected, Ran, Received, Receives, Refilled}
 use Rattle.macs_endpoint.specs.State.{RefusedLong, Reply, State, Submitted, no_logs}
+use Rattle.macs_endpoint.specs.State.{Rested}
 use Rattle.macs_endpoint.specs.Step.{Step}
 use Rattle.macs_endpoint.specs.Value.{state_of}
 use Rattle.macs_pcap.specs.Faults.{max_records}
@@ -35,6 +36,7 @@ judged_by s t frame (Protected result out) passed (inl stopped) settles = absurd
 judged_by s t frame (Protected result out) passed (inr ran) settles = absurd ran.1
 judged_by s t frame (Ran result) passed step settles = absurd settles
 judged_by s t frame (Refilled result) passed step settles = absurd settles
+judged_by s t frame (Rested result) passed step settles = absurd settles
 judged_by s t frame (Submitted result) passed step settles = absurd settles
 judged_by s t frame (Advanced result) passed step settles = absurd settles
 judged_by s t frame RefusedLong passed step settles = absurd settles

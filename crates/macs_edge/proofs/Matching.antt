@@ -10,6 +10,7 @@ use Rattle.macs_endpoint.specs.Calls.{IsCall}
 use Rattle.macs_endpoint.specs.Lives.{Lives, Transition}
 use Rattle.macs_endpoint.specs.State.{Advanced, Advances, Call, Commands, Protects, Receives, Refills, Reply, Submits}
 use Rattle.macs_endpoint.specs.State.{Submitted}
+use Rattle.macs_endpoint.specs.State.{Rests}
 use Rattle.macs_endpoint.specs.Value.{EndpointValue}
 use Rattle.macs_endpoint.specs.declared.fault.StepFault.{StepFault}
 use Rattle.macs_endpoint.specs.declared.fault.SubmitFault.{SubmitFault}
@@ -62,6 +63,7 @@ frame-submits (Protects plain) frame = refl
 frame-submits (Receives octets) frame = refl
 frame-submits (Commands command) frame = absurd frame
 frame-submits Refills frame = absurd frame
+frame-submits Rests frame = absurd frame
 frame-submits (Submits command) frame = absurd frame
 frame-submits Advances frame = absurd frame
 
@@ -70,6 +72,7 @@ frame-answers (Protects plain) reply frame = refl
 frame-answers (Receives octets) reply frame = refl
 frame-answers (Commands command) reply frame = absurd frame
 frame-answers Refills reply frame = absurd frame
+frame-answers Rests reply frame = absurd frame
 frame-answers (Submits command) reply frame = absurd frame
 frame-answers Advances reply frame = absurd frame
 
@@ -78,6 +81,7 @@ frame-ends (Protects plain) reply frame = refl
 frame-ends (Receives octets) reply frame = refl
 frame-ends (Commands command) reply frame = absurd frame
 frame-ends Refills reply frame = absurd frame
+frame-ends Rests reply frame = absurd frame
 frame-ends (Submits command) reply frame = absurd frame
 frame-ends Advances reply frame = absurd frame
 

@@ -14,6 +14,7 @@ use Rattle.macs_rxsc.specs.declared.verdict.Verdict.TheVariants.{Delivered, Disc
 use Rattle.macs_rxsc.proofs.Steps.{arrives_once}
 use Rattle.macs_endpoint.specs.State.{Advanced, AdvancedLong, Protected, Protects, Ran, Received, Receives, Refilled}
 use Rattle.macs_endpoint.specs.State.{RefusedLong, Reply, State, Submitted, rx_side, tx_side}
+use Rattle.macs_endpoint.specs.State.{Rested}
 use Rattle.macs_endpoint.specs.Step.{Step, state_after_delivery, state_after_frame}
 use Rattle.macs_endpoint.specs.declared.fault.ProtectFault.TheVariants as protect
 use Rattle.macs_edge.specs.Settling.{Settles, call_on}
@@ -53,6 +54,7 @@ protects s t plain (Received result out) passed (inl stopped) settles = absurd s
 protects s t plain (Received result out) passed (inr ran) settles = absurd ran.1
 protects s t plain (Ran result) passed step settles = absurd settles
 protects s t plain (Refilled result) passed step settles = absurd settles
+protects s t plain (Rested result) passed step settles = absurd settles
 protects s t plain (Submitted result) passed step settles = absurd settles
 protects s t plain (Advanced result) passed step settles = absurd settles
 protects s t plain RefusedLong passed step settles = absurd settles
@@ -116,6 +118,7 @@ receives s t frame (Protected result out) passed (inl stopped) settles = absurd 
 receives s t frame (Protected result out) passed (inr ran) settles = absurd ran.1
 receives s t frame (Ran result) passed step settles = absurd settles
 receives s t frame (Refilled result) passed step settles = absurd settles
+receives s t frame (Rested result) passed step settles = absurd settles
 receives s t frame (Submitted result) passed step settles = absurd settles
 receives s t frame (Advanced result) passed step settles = absurd settles
 receives s t frame RefusedLong passed step settles = absurd settles

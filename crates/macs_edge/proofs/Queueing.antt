@@ -7,6 +7,7 @@ use Rattle.macs_endpoint.specs.Calls.{IsCall}
 use Rattle.macs_endpoint.specs.Queue.{with_waiting}
 use Rattle.macs_endpoint.specs.State.{Advanced, Advances, Call, Commands, Protected, Protects, Received, Receives}
 use Rattle.macs_endpoint.specs.State.{Refills, Reply, State, Submits, Submitted, no_logs}
+use Rattle.macs_endpoint.specs.State.{Rests}
 use Rattle.macs_endpoint.specs.Step.{AdvanceStep, Ends, IsStopped, RunningStep, SubmitStep, TakesUp}
 use Rattle.macs_endpoint.specs.Value.{EndpointValue, state_of}
 use Rattle.macs_endpoint.specs.declared.fault.CommandFault.{CommandFault}
@@ -32,6 +33,7 @@ frame-runs s t (Protects plain) reply frame runs = absurd runs
 frame-runs s t (Receives octets) reply frame runs = absurd runs
 frame-runs s t (Commands command) reply frame runs = absurd frame
 frame-runs s t Refills reply frame runs = absurd frame
+frame-runs s t Rests reply frame runs = absurd frame
 frame-runs s t (Submits command) reply frame runs = absurd frame
 frame-runs s t Advances reply frame runs = absurd frame
 

@@ -1,5 +1,5 @@
 -- Frames leave what is under way and what waits as they were.
-use Rattle.std.proofs.Common.{◌≡◌, ◌⊎◌, inl, inr, ℕ, List, Result, Ok, Err, ap}
+use Rattle.std.proofs.Common.{◌≡◌, inl, inr, ℕ, List, Result, Ok, Err, ap}
 use Rattle.macs_rxsc.specs.declared.verdict.Verdict.{Verdict}
 use Rattle.macs_endpoint.specs.State.{State}
 use Rattle.macs_endpoint.specs.Step.{ProtectStep, ReceiveStep}

@@ -6,7 +6,7 @@ use Rattle.macs_disk.specs.Disk.{Disk}
 use Rattle.macs_store.specs.Standing.{Standing}
 use Rattle.macs_store.specs.Value.{IsIdle, StoreValue, standing_in, standing_then}
 use Rattle.macs_endpoint.specs.Advancing.{BeginsWith, GoesOn, Due, ToRaise, next_due}
-use Rattle.macs_endpoint.specs.Calls.{AdvancesIn, IsCall, Rests}
+use Rattle.macs_endpoint.specs.Calls.{AdvancesIn, IsCall, EndsWork}
 use Rattle.macs_endpoint.specs.Ceilings.{CeilingsAfter, Raise, standing_with_raise}
 use Rattle.macs_endpoint.specs.WorkThroughCalls.{Lasts}
 use Rattle.macs_endpoint.specs.Limits.{IsStill}
@@ -14,6 +14,7 @@ use Rattle.macs_endpoint.specs.Lives.{Lives, Transition}
 use Rattle.macs_endpoint.specs.State.{Advanced, AdvancedLong, Advances, Call, Commands, Logs, Protected, Protects, Ran}
 use Rattle.macs_endpoint.specs.State.{Received, Receives, Refilled, Refills, RefusedLong, Reply, State, Submits}
 use Rattle.macs_endpoint.specs.State.{Submitted, no_logs}
+use Rattle.macs_endpoint.specs.State.{Rested, Rests}
 use Rattle.macs_endpoint.specs.Step.{AdvanceStep, RunningStep, SubmitStep}
 use Rattle.macs_endpoint.specs.Value.{EndpointValue, IsAtRest, IsKeeping, IsReserving, IsSoundEndpoint, is_stopped}
 use Rattle.macs_endpoint.specs.Value.{state_of}
@@ -23,6 +24,7 @@ use Rattle.macs_endpoint.specs.declared.fault.StepFault.{StepFault}
 use Rattle.macs_endpoint.specs.declared.fault.StepFault.TheVariants as step
 use Rattle.macs_endpoint.specs.declared.fault.SubmitFault.{SubmitFault}
 use Rattle.macs_endpoint.specs.declared.fault.SubmitFault.TheVariants as submit
+use Rattle.macs_endpoint.specs.declared.fault.RestFault.TheVariants as rest
 use Rattle.macs_endpoint.specs.declared.progress.Step.{Step as Progress}
 use Rattle.macs_endpoint.specs.declared.progress.Step.TheVariants.{Done, Idle, Reserved, Worked}
 use Rattle.macs_endpoint.proofs.Alike.{alike-protect, alike-receive}
@@ -108,7 +110,7 @@ module _ {D : Type 0} (disk_of : D → Disk) (from to : Standing) (old new : End
     submits command (Err submit.Stopped) moves same = absurd moves
 
     runs : (call : Call) (reply : Reply) → is_stopped old ≡ false → RunningStep s call reply t
-        → IsStill old call reply new → Rests call reply new
+        → IsStill old call reply new → EndsWork call reply new
         → AdvancesIn disk_of old call reply new → CeilingsAfter s (standing_in old.store) old.reserving call reply
         (standing_in new.store) → LeadsTo from to new
     runs (Commands command) (Ran (Ok done)) run moves still rests does stands = absurd (still_busy rests)
@@ -126,6 +128,12 @@ module _ {D : Type 0} (disk_of : D → Disk) (from to : Standing) (old new : End
     runs Refills (Refilled (Err refill.GenerationsSpent)) run moves still rests does stands = absurd (still_busy rests)
     runs Refills (Refilled (Err refill.Disk)) run moves still rests does stands =
         fails (ap (λ (x : State). x.stopped) moves.1)
+    runs Rests (Rested (Ok done)) run moves still rests does stands = absurd (still_busy rests)
+    runs Rests (Rested (Err rest.Stopped)) run moves still rests does stands = absurd moves
+    runs Rests (Rested (Err rest.Busy)) run moves still rests does stands = keeps_state still moves.1
+    runs Rests (Rested (Err rest.GenerationsSpent)) run moves still rests does stands = absurd (still_busy rests)
+    runs Rests (Rested (Err rest.Disk)) run moves still rests does stands =
+        fails (ap (λ (x : State). x.stopped) moves.1)
     runs (Submits command) (Submitted result) run moves still rests does stands = submits command result moves still
     runs Advances (Advanced result) run moves still rests does stands =
         advances result moves ((does run).goes_on busy) stands
@@ -142,7 +150,7 @@ module _ {D : Type 0} (disk_of : D → Disk) (from to : Standing) (old new : End
       let one = is.behaves.step no_logs in
       elim one.1 [
         | inl stopped ↦ fails (ap (λ (x : State). x.stopped) stopped.2 ∙ stopped.0)
-        | inr steps ↦ runs one.0 call reply steps.0 steps.1 is.behaves.still is.behaves.rests is.behaves.advances
+        | inr steps ↦ runs one.0 call reply steps.0 steps.1 is.behaves.still is.behaves.ends_work is.behaves.advances
             is.behaves.ceilings
       ]
 

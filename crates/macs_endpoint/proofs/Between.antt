@@ -16,6 +16,7 @@ use Rattle.macs_endpoint.specs.Queue.{first_waiting}
 use Rattle.macs_endpoint.specs.State.{Advanced, AdvancedLong, Advances, Call, Commands, Logs, Protected, Protects, Ran}
 use Rattle.macs_endpoint.specs.State.{Received, Receives, Refilled, Refills, RefusedLong, Reply, State, Submits}
 use Rattle.macs_endpoint.specs.State.{Submitted, no_logs}
+use Rattle.macs_endpoint.specs.State.{Rested, Rests}
 use Rattle.macs_endpoint.specs.Step.{AdvanceStep, IsStopped, RunningStep, SubmitStep}
 use Rattle.macs_endpoint.specs.Value.{EndpointValue, IsAtRest, IsKeeping, IsReserving, IsSoundEndpoint, is_stopped}
 use Rattle.macs_endpoint.specs.Value.{state_of}
@@ -25,6 +26,7 @@ use Rattle.macs_endpoint.specs.declared.fault.StepFault.{StepFault}
 use Rattle.macs_endpoint.specs.declared.fault.StepFault.TheVariants as step
 use Rattle.macs_endpoint.specs.declared.fault.SubmitFault.{SubmitFault}
 use Rattle.macs_endpoint.specs.declared.fault.SubmitFault.TheVariants as submit
+use Rattle.macs_endpoint.specs.declared.fault.RestFault.TheVariants as rest
 use Rattle.macs_endpoint.specs.declared.progress.Step.{Step as Progress}
 use Rattle.macs_endpoint.specs.declared.progress.Step.TheVariants.{Done, Idle, Reserved, Worked}
 use Rattle.macs_endpoint.specs.declared.queue.Waiting.{Waiting}
@@ -72,6 +74,7 @@ stopped_none Advances (Advanced (Err step.Disk)) stopped = absurd stopped
 stopped_none Advances (Advanced (Err step.Stopped)) stopped = refl
 stopped_none (Commands command) (Ran result) stopped = refl
 stopped_none Refills (Refilled result) stopped = refl
+stopped_none Rests (Rested result) stopped = refl
 stopped_none (Submits command) (Submitted result) stopped = refl
 stopped_none (Protects plain) (Protected result out) stopped = refl
 stopped_none (Receives frame) (Received result out) stopped = refl
@@ -228,6 +231,12 @@ module _ {D : Type 0} (disk_of : D → Disk) (old new : EndpointValue D) (kept :
         keeps (Refilled (Err refill.Busy)) refl still whose moves.1
     runs Refills (Refilled (Err refill.GenerationsSpent)) moves still does whose free = absurd (some_wait moves.0)
     runs Refills (Refilled (Err refill.Disk)) moves still does whose free = absurd (some_wait moves.0)
+    runs Rests (Rested (Ok done)) moves still does whose free = absurd (some_wait moves.0)
+    runs Rests (Rested (Err rest.Stopped)) moves still does whose free = absurd moves
+    runs Rests (Rested (Err rest.Busy)) moves still does whose free =
+        keeps (Rested (Err rest.Busy)) refl still whose moves.1
+    runs Rests (Rested (Err rest.GenerationsSpent)) moves still does whose free = absurd (some_wait moves.0)
+    runs Rests (Rested (Err rest.Disk)) moves still does whose free = absurd (some_wait moves.0)
     runs (Submits command) (Submitted result) moves still does whose free = submits command result moves still whose
     runs Advances (Advanced result) moves still does whose free = advance result moves still (does running) whose free
     runs (Protects plain) (Protected result out) moves still does whose free =

@@ -7,15 +7,18 @@ use Rattle.macs_store.specs.Standing.{Standing, accept}
 use Rattle.macs_endpoint.specs.Ceilings.{CeilingsAfter, IsRefilled, Raise, StandsAfter, first_raise}
 use Rattle.macs_endpoint.specs.Ceilings.{standing_with_raise, standing_with_reserved}
 use Rattle.macs_endpoint.specs.Queue.{first_command}
+use Rattle.macs_endpoint.specs.Rooms.{LowersNone}
 use Rattle.macs_endpoint.specs.State.{Advanced, AdvancedLong, Advances, Call, Commands, Protected, Protects, Ran}
 use Rattle.macs_endpoint.specs.State.{Received, Receives, Refilled, Refills, RefusedLong, Reply, State, Submits}
 use Rattle.macs_endpoint.specs.State.{Submitted, command_made, rx_side, state_after_fault, state_with_under_way}
 use Rattle.macs_endpoint.specs.State.{tx_side}
+use Rattle.macs_endpoint.specs.State.{Rested, Rests}
 use Rattle.macs_endpoint.specs.Step.{Step, next_after, numbers_after, state_with_waiting, state_without_first}
 use Rattle.macs_endpoint.specs.declared.fault.CommandFault.TheVariants as ran
 use Rattle.macs_endpoint.specs.declared.fault.RefillFault.TheVariants as refill
 use Rattle.macs_endpoint.specs.declared.fault.StepFault.TheVariants as step
 use Rattle.macs_endpoint.specs.declared.fault.SubmitFault.TheVariants as submit
+use Rattle.macs_endpoint.specs.declared.fault.RestFault.TheVariants as rest
 use Rattle.macs_endpoint.specs.declared.progress.Step.TheVariants.{Done, Idle, Reserved, Worked}
 use Rattle.macs_endpoint.specs.declared.queue.Waiting.{Waiting}
 use Rattle.macs_endpoint.proofs.Raises.{raises-keep}
@@ -71,6 +74,7 @@ module _ (s t : State) where
       same (state_after_fault (state_with_under_way s command)) t runs.1.2
   call-changes (Commands command) (Ran (Err ran.Stopped)) quiet (inr runs) = absurd runs.1
   call-changes (Commands command) (Refilled result) quiet made = absurd (no-answer made)
+  call-changes (Commands command) (Rested result) quiet made = absurd (no-answer made)
   call-changes (Commands command) (Submitted result) quiet made = absurd (no-answer made)
   call-changes (Commands command) RefusedLong quiet (inl stopped) = absurd stopped.1
   call-changes (Commands command) RefusedLong quiet (inr runs) = same s t runs.1.2
@@ -84,6 +88,21 @@ module _ (s t : State) where
   call-changes Refills (Refilled (Err refill.GenerationsSpent)) quiet (inr runs) = same s t runs.1.1
   call-changes Refills (Refilled (Err refill.Disk)) quiet (inr runs) = same (state_after_fault s) t runs.1.1
   call-changes Refills (Refilled (Err refill.Stopped)) quiet (inr runs) = absurd runs.1
+  call-changes Rests (Rested result) quiet (inl stopped) = same s t stopped.2
+  call-changes Rests (Rested (Ok done)) quiet (inr runs) = same s t runs.1.1
+  call-changes Rests (Rested (Err rest.Busy)) quiet (inr runs) = same s t runs.1.1
+  call-changes Rests (Rested (Err rest.GenerationsSpent)) quiet (inr runs) = same s t runs.1.1
+  call-changes Rests (Rested (Err rest.Disk)) quiet (inr runs) = same (state_after_fault s) t runs.1.1
+  call-changes Rests (Rested (Err rest.Stopped)) quiet (inr runs) = absurd runs.1
+  call-changes Rests (Ran result) quiet made = absurd (no-answer made)
+  call-changes Rests (Refilled result) quiet made = absurd (no-answer made)
+  call-changes Rests (Submitted result) quiet made = absurd (no-answer made)
+  call-changes Rests (Advanced result) quiet made = absurd (no-answer made)
+  call-changes Rests RefusedLong quiet made = absurd (no-answer made)
+  call-changes Rests (AdvancedLong ticket) quiet made = absurd (no-answer made)
+  call-changes Rests (Protected result out) quiet made = absurd (no-answer made)
+  call-changes Rests (Received result out) quiet made = absurd (no-answer made)
+  call-changes Refills (Rested result) quiet made = absurd (no-answer made)
   call-changes Refills (Ran result) quiet made = absurd (no-answer made)
   call-changes Refills (Submitted result) quiet made = absurd (no-answer made)
   call-changes Refills (Advanced result) quiet made = absurd (no-answer made)
@@ -99,6 +118,7 @@ module _ (s t : State) where
   call-changes (Submits command) (Submitted (Err submit.Stopped)) quiet (inr runs) = absurd runs.1
   call-changes (Submits command) (Ran result) quiet made = absurd (no-answer made)
   call-changes (Submits command) (Refilled result) quiet made = absurd (no-answer made)
+  call-changes (Submits command) (Rested result) quiet made = absurd (no-answer made)
   call-changes (Submits command) (Advanced result) quiet made = absurd (no-answer made)
   call-changes (Submits command) RefusedLong quiet made = absurd (no-answer made)
   call-changes (Submits command) (AdvancedLong ticket) quiet made = absurd (no-answer made)
@@ -133,6 +153,7 @@ module _ (s t : State) where
   call-changes Advances (Advanced (Err step.Stopped)) quiet (inr runs) = absurd runs.1
   call-changes Advances (Ran result) quiet made = absurd (no-answer made)
   call-changes Advances (Refilled result) quiet made = absurd (no-answer made)
+  call-changes Advances (Rested result) quiet made = absurd (no-answer made)
   call-changes Advances (Submitted result) quiet made = absurd (no-answer made)
   call-changes Advances RefusedLong quiet made = absurd (no-answer made)
   call-changes Advances (AdvancedLong ticket) quiet (inl stopped) = absurd stopped.1
@@ -171,62 +192,82 @@ module _ (s : State) (f g : Standing) (reserving : Option Raise) (P : Standing �
       none g (raises-keep (tx_side s) (rx_side s) P raised (standing_with_reserved f reserving) g is.raises is.raised
       (reserved_by reserving refl holds))
 
-  -- through a call
+  -- through a call that lowers no ceiling
   pub stands-keep : (call : Call) (reply : Reply) → CeilingsAfter s f reserving call reply g
-      → Spares (command_made s call reply) → P f
+      → LowersNone call reply → Spares (command_made s call reply) → P f
       → Q (command_made s call reply) g
-  stands-keep (Commands command) (Ran (Ok done)) stands spares holds =
+  stands-keep (Commands command) (Ran (Ok done)) stands lowers spares holds =
       made command (standing_with_reserved f reserving) g stands spares (reserved_by reserving refl holds)
-  stands-keep (Commands command) (Ran (Err ran.GenerationsSpent)) stands spares holds =
+  stands-keep (Commands command) (Ran (Err ran.GenerationsSpent)) stands lowers spares holds =
       to (standing_with_reserved f reserving) stands (reserved_by reserving refl holds)
-  stands-keep (Commands command) (Ran (Err ran.Disk)) stands spares holds = elim stands [
+  stands-keep (Commands command) (Ran (Err ran.Disk)) stands lowers spares holds = elim stands [
     | inl is ↦ to f is holds
     | inr is ↦ to (standing_with_reserved f reserving) is (reserved_by reserving refl holds)
   ]
-  stands-keep (Commands command) (Ran (Err ran.Stopped)) stands spares holds = to f stands holds
-  stands-keep (Commands command) (Ran (Err ran.Busy)) stands spares holds = to f stands holds
-  stands-keep (Commands command) (Ran (Err (ran.Refused refusal))) stands spares holds = to f stands holds
-  stands-keep (Commands command) (Refilled result) stands spares holds = to f stands holds
-  stands-keep (Commands command) (Submitted result) stands spares holds = to f stands holds
-  stands-keep (Commands command) RefusedLong stands spares holds = to f stands holds
-  stands-keep (Commands command) (AdvancedLong ticket) stands spares holds = to f stands holds
-  stands-keep (Commands command) (Advanced result) stands spares holds = to f stands holds
-  stands-keep (Commands command) (Protected result out) stands spares holds = to f stands holds
-  stands-keep (Commands command) (Received result out) stands spares holds = to f stands holds
-  stands-keep Refills (Refilled (Ok done)) stands spares holds = refilled None stands holds
-  stands-keep Refills (Refilled (Err refill.GenerationsSpent)) stands spares holds =
+  stands-keep (Commands command) (Ran (Err ran.Stopped)) stands lowers spares holds = to f stands holds
+  stands-keep (Commands command) (Ran (Err ran.Busy)) stands lowers spares holds = to f stands holds
+  stands-keep (Commands command) (Ran (Err (ran.Refused refusal))) stands lowers spares holds = to f stands holds
+  stands-keep (Commands command) (Refilled result) stands lowers spares holds = to f stands holds
+  stands-keep (Commands command) (Rested result) stands lowers spares holds = to f stands holds
+  stands-keep (Commands command) (Submitted result) stands lowers spares holds = to f stands holds
+  stands-keep (Commands command) RefusedLong stands lowers spares holds = to f stands holds
+  stands-keep (Commands command) (AdvancedLong ticket) stands lowers spares holds = to f stands holds
+  stands-keep (Commands command) (Advanced result) stands lowers spares holds = to f stands holds
+  stands-keep (Commands command) (Protected result out) stands lowers spares holds = to f stands holds
+  stands-keep (Commands command) (Received result out) stands lowers spares holds = to f stands holds
+  stands-keep Refills (Refilled (Ok done)) stands lowers spares holds = refilled None stands holds
+  stands-keep Refills (Refilled (Err refill.GenerationsSpent)) stands lowers spares holds =
       refilled (Some stands.0) stands.1 holds
-  stands-keep Refills (Refilled (Err refill.Disk)) stands spares holds = elim stands [
+  stands-keep Refills (Refilled (Err refill.Disk)) stands lowers spares holds = elim stands [
     | inl held ↦ to f held.2 holds
     | inr is ↦ refilled (Some is.0) is.1 holds
   ]
-  stands-keep Refills (Refilled (Err refill.Stopped)) stands spares holds = to f stands holds
-  stands-keep Refills (Refilled (Err refill.Busy)) stands spares holds = to f stands holds
-  stands-keep Refills (Ran result) stands spares holds = to f stands holds
-  stands-keep Refills (Submitted result) stands spares holds = to f stands holds
-  stands-keep Refills RefusedLong stands spares holds = to f stands holds
-  stands-keep Refills (AdvancedLong ticket) stands spares holds = to f stands holds
-  stands-keep Refills (Advanced result) stands spares holds = to f stands holds
-  stands-keep Refills (Protected result out) stands spares holds = to f stands holds
-  stands-keep Refills (Received result out) stands spares holds = to f stands holds
-  stands-keep Advances (Advanced (Ok Idle)) stands spares holds = to f stands holds
-  stands-keep Advances (Advanced (Ok Worked)) stands spares holds = to f stands holds
-  stands-keep Advances (Advanced (Ok Reserved)) stands spares holds =
+  stands-keep Refills (Refilled (Err refill.Stopped)) stands lowers spares holds = to f stands holds
+  stands-keep Refills (Refilled (Err refill.Busy)) stands lowers spares holds = to f stands holds
+  stands-keep Refills (Rested result) stands lowers spares holds = to f stands holds
+  stands-keep Refills (Ran result) stands lowers spares holds = to f stands holds
+  stands-keep Refills (Submitted result) stands lowers spares holds = to f stands holds
+  stands-keep Refills RefusedLong stands lowers spares holds = to f stands holds
+  stands-keep Refills (AdvancedLong ticket) stands lowers spares holds = to f stands holds
+  stands-keep Refills (Advanced result) stands lowers spares holds = to f stands holds
+  stands-keep Refills (Protected result out) stands lowers spares holds = to f stands holds
+  stands-keep Refills (Received result out) stands lowers spares holds = to f stands holds
+  stands-keep Rests (Rested (Ok done)) stands lowers spares holds = absurd lowers
+  stands-keep Rests (Rested (Err rest.GenerationsSpent)) stands lowers spares holds =
+      to (standing_with_reserved f reserving) stands (reserved_by reserving refl holds)
+  stands-keep Rests (Rested (Err rest.Disk)) stands lowers spares holds = elim stands [
+    | inl is ↦ to f is holds
+    | inr is ↦ to (standing_with_reserved f reserving) is (reserved_by reserving refl holds)
+  ]
+  stands-keep Rests (Rested (Err rest.Stopped)) stands lowers spares holds = to f stands holds
+  stands-keep Rests (Rested (Err rest.Busy)) stands lowers spares holds = to f stands holds
+  stands-keep Rests (Ran result) stands lowers spares holds = to f stands holds
+  stands-keep Rests (Refilled result) stands lowers spares holds = to f stands holds
+  stands-keep Rests (Submitted result) stands lowers spares holds = to f stands holds
+  stands-keep Rests RefusedLong stands lowers spares holds = to f stands holds
+  stands-keep Rests (AdvancedLong ticket) stands lowers spares holds = to f stands holds
+  stands-keep Rests (Advanced result) stands lowers spares holds = to f stands holds
+  stands-keep Rests (Protected result out) stands lowers spares holds = to f stands holds
+  stands-keep Rests (Received result out) stands lowers spares holds = to f stands holds
+  stands-keep Advances (Advanced (Ok Idle)) stands lowers spares holds = to f stands holds
+  stands-keep Advances (Advanced (Ok Worked)) stands lowers spares holds = to f stands holds
+  stands-keep Advances (Advanced (Ok Reserved)) stands lowers spares holds =
       to (standing_with_raise f stands.0) stands.2 (reserved stands.0 stands.1 holds)
-  stands-keep Advances (Advanced (Ok (Done ticket (Ok done)))) stands spares holds =
+  stands-keep Advances (Advanced (Ok (Done ticket (Ok done)))) stands lowers spares holds =
       after_made (first_command s.waiting) stands spares holds
-  stands-keep Advances (Advanced (Ok (Done ticket (Err fault)))) stands spares holds = to f stands holds
-  stands-keep Advances (Advanced (Err fault)) stands spares holds = to f stands holds
-  stands-keep Advances (Ran result) stands spares holds = to f stands holds
-  stands-keep Advances (Refilled result) stands spares holds = to f stands holds
-  stands-keep Advances (Submitted result) stands spares holds = to f stands holds
-  stands-keep Advances RefusedLong stands spares holds = to f stands holds
-  stands-keep Advances (AdvancedLong ticket) stands spares holds = to f stands holds
-  stands-keep Advances (Protected result out) stands spares holds = to f stands holds
-  stands-keep Advances (Received result out) stands spares holds = to f stands holds
-  stands-keep (Submits command) reply stands spares holds = to f stands holds
-  stands-keep (Protects plain) reply stands spares holds = to f stands holds
-  stands-keep (Receives frame) reply stands spares holds = to f stands holds
+  stands-keep Advances (Advanced (Ok (Done ticket (Err fault)))) stands lowers spares holds = to f stands holds
+  stands-keep Advances (Advanced (Err fault)) stands lowers spares holds = to f stands holds
+  stands-keep Advances (Ran result) stands lowers spares holds = to f stands holds
+  stands-keep Advances (Refilled result) stands lowers spares holds = to f stands holds
+  stands-keep Advances (Rested result) stands lowers spares holds = to f stands holds
+  stands-keep Advances (Submitted result) stands lowers spares holds = to f stands holds
+  stands-keep Advances RefusedLong stands lowers spares holds = to f stands holds
+  stands-keep Advances (AdvancedLong ticket) stands lowers spares holds = to f stands holds
+  stands-keep Advances (Protected result out) stands lowers spares holds = to f stands holds
+  stands-keep Advances (Received result out) stands lowers spares holds = to f stands holds
+  stands-keep (Submits command) reply stands lowers spares holds = to f stands holds
+  stands-keep (Protects plain) reply stands lowers spares holds = to f stands holds
+  stands-keep (Receives frame) reply stands lowers spares holds = to f stands holds
 
 -- ---- a command that was made durable
 
@@ -235,6 +276,7 @@ pub made-quiet : (s : State) (call : Call) (reply : Reply) (command : Command)
     → command_made s call reply ≡ Some command → PassesNone call
 made-quiet s (Commands other) reply command made = tt
 made-quiet s Refills reply command made = tt
+made-quiet s Rests reply command made = tt
 made-quiet s (Submits other) reply command made = tt
 made-quiet s Advances reply command made = tt
 made-quiet s (Protects plain) reply command made = absurd cc
@@ -245,11 +287,23 @@ abbrev pub IsAcceptedTo : Option Command → Standing → Type 0
 IsAcceptedTo None new = Unit {0}
 IsAcceptedTo (Some command) new = (old : Standing) × (accept old command ≡ Ok new)
 
+by_keeping : (s : State) (f g : Standing) (reserving : Option Raise) (call : Call) (reply : Reply)
+    → CeilingsAfter s f reserving call reply g → LowersNone call reply
+    → IsAcceptedTo (command_made s call reply) g
+by_keeping s f g reserving call reply stands lowers =
+    stands-keep s f g reserving (λ (x : Standing). Unit {0}) IsAcceptedTo (λ (o : Option Command). Unit {0})
+    (λ x raise first holds. tt)
+    (λ raise is holds. tt) (λ x holds. tt) (λ command x y is spares holds. (x, is)) call reply stands lowers tt tt
+
 -- so it is with the one that a call made durable
 pub made-accepted : (s : State) (f g : Standing) (reserving : Option Raise) (call : Call) (reply : Reply)
     → CeilingsAfter s f reserving call reply g
     → IsAcceptedTo (command_made s call reply) g
-made-accepted s f g reserving call reply stands =
-    stands-keep s f g reserving (λ (x : Standing). Unit {0}) IsAcceptedTo (λ (o : Option Command). Unit {0})
-    (λ x raise first holds. tt)
-    (λ raise is holds. tt) (λ x holds. tt) (λ command x y is spares holds. (x, is)) call reply stands tt tt
+made-accepted s f g reserving Rests reply stands = tt
+made-accepted s f g reserving (Commands command) reply stands = by_keeping s f g reserving (Commands command) reply stands tt
+made-accepted s f g reserving Refills reply stands = by_keeping s f g reserving Refills reply stands tt
+made-accepted s f g reserving (Submits command) reply stands = by_keeping s f g reserving (Submits command) reply stands tt
+made-accepted s f g reserving Advances reply stands = by_keeping s f g reserving Advances reply stands tt
+made-accepted s f g reserving (Protects plain) reply stands = by_keeping s f g reserving (Protects plain) reply stands tt
+made-accepted s f g reserving (Receives frame) reply stands = by_keeping s f g reserving (Receives frame) reply stands tt
+

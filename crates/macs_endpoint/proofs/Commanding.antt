@@ -26,7 +26,7 @@ use Rattle.macs_store.proofs.Keeping.{accepted-in_range}
 use Rattle.macs_store.specs.declared.fault.CommitFault.{CommitFault}
 use Rattle.macs_store.specs.declared.fault.CommitFault.TheVariants as commit
 use Rattle.macs_endpoint.specs.Advancing.{turn_after}
-use Rattle.macs_endpoint.specs.Calls.{Fails, IsCall, Rests}
+use Rattle.macs_endpoint.specs.Calls.{Fails, IsCall, EndsWork}
 use Rattle.macs_endpoint.specs.Ceilings.{Raise, StandsRan, standing_with_reserved}
 use Rattle.macs_endpoint.specs.Counting.{channel_counters_after_command}
 use Rattle.macs_endpoint.specs.KeptCommands.{KeepsCommand, most_in_command}
@@ -70,7 +70,7 @@ module _ {D : Type 0} (disk_of : D → disk.Disk) (e : EndpointValue D) (command
       → StandsRan (standing_in e.store) e.reserving command (Err fault) (standing_in e.store)
       → IsLimited e (Commands command) (Ran (Err fault)) (record other { store = e.store })
       → IsStill e (Commands command) (Ran (Err fault)) (record other { store = e.store })
-      → Rests (Commands command) (Ran (Err fault)) (record other { store = e.store })
+      → EndsWork (Commands command) (Ran (Err fault)) (record other { store = e.store })
       → other.turn ≡ turn_after e (Commands command) (Ran (Err fault))
       → (IsBacked disk_of e → IsBacked disk_of (record other { store = e.store }))
       → IsCall disk_of e (Commands command) (Ran (Err fault)) (record other { store = e.store })
@@ -81,7 +81,7 @@ module _ {D : Type 0} (disk_of : D → disk.Disk) (e : EndpointValue D) (command
         ceilings = stands;
         limited = limited;
         still = still;
-        rests = rests;
+        ends_work = rests;
         advances = tt;
         turn = whose;
         tx_counters = ap txsc.counters_of tx;
@@ -269,7 +269,7 @@ module _ {D : Type 0} (disk_of : D → disk.Disk) (e : EndpointValue D) (kept : 
           ceilings = stands_ran (Err Disk) (standing_in s) (inl cut_same);
           limited = tt;
           still = tt;
-          rests = tt;
+          ends_work = tt;
           advances = tt;
           turn = refl;
           tx_counters = refl;
@@ -362,7 +362,7 @@ module _ {D : Type 0} (disk_of : D → disk.Disk) (e : EndpointValue D) (kept : 
               ceilings = stands_ran (Ok tt) (standing_in s) commits.done;
               limited = tt;
               still = tt;
-              rests = commits.idle;
+              ends_work = commits.idle;
               advances = tt;
               turn = refl;
               tx_counters = tx_counters;

@@ -380,7 +380,7 @@ module _ {D : Type 0} (disk_of : D → Disk) (old : EndpointValue D) (tx : Tx) (
         ceilings = refl;
         limited = protect_limited old tx plain (txsc.tx_side_of tx) result out standing;
         still = refl;
-        rests = tt;
+        ends_work = tt;
         advances = tt;
         turn = refl;
         tx_counters = counted_after result counters;
@@ -400,7 +400,7 @@ protect-stopped disk_of old plain out octets stopped empty =
       ceilings = refl;
       limited = tt;
       still = refl;
-      rests = tt;
+      ends_work = tt;
       advances = tt;
       turn = refl;
       tx_counters = refl;
@@ -687,7 +687,7 @@ module _ {D : Type 0} (disk_of : D → Disk) (old : EndpointValue D) (r : rxsc.R
         limited = receive_limited old (with_rx old r) frame verdict out
             (held_at_ceiling (rx_side (state_of old no_logs)) s.ceilings.rx frame outcome standing_receives);
         still = refl;
-        rests = tt;
+        ends_work = tt;
         advances = tt;
         turn = refl;
         tx_counters = refl;
@@ -707,7 +707,7 @@ receive-stopped disk_of old frame out fault octets stopped empty =
       ceilings = refl;
       limited = tt;
       still = refl;
-      rests = tt;
+      ends_work = tt;
       advances = tt;
       turn = refl;
       tx_counters = refl;

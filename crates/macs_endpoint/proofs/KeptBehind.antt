@@ -134,7 +134,7 @@ module _ {D : Type 0} (disk_of : D → disk.Disk) (e : EndpointValue D) (command
               ceilings = inl ends.same;
               limited = tt;
               still = tt;
-              rests = tt;
+              ends_work = tt;
               advances = tt;
               turn = refl;
               tx_counters = reserves.tx_counters;
@@ -232,7 +232,7 @@ module _ {D : Type 0} (disk_of : D → disk.Disk) (e : EndpointValue D) (command
               ceilings = ran_so;
               limited = limited;
               still = still;
-              rests = call.behaves.rests;
+              ends_work = call.behaves.ends_work;
               advances = tt;
               turn = whose;
               tx_counters = call.behaves.tx_counters ∙ reserves.tx_counters;

@@ -33,3 +33,5 @@ mod WorkThroughCalls
 mod Between
 mod AsBegun
 mod OneCommand
+pub mod Rested
+mod RestCall

@@ -15,6 +15,7 @@ use Rattle.macs_endpoint.specs.Queue.{first_waiting}
 use Rattle.macs_endpoint.specs.State.{Advanced, AdvancedLong, Advances, Call, Commands, Logs, Protected, Protects, Ran}
 use Rattle.macs_endpoint.specs.State.{Received, Receives, Refilled, Refills, RefusedLong, Reply, State, Submits}
 use Rattle.macs_endpoint.specs.State.{Submitted, no_logs, rx_side, tx_side}
+use Rattle.macs_endpoint.specs.State.{Rested, Rests}
 use Rattle.macs_endpoint.specs.Step.{AdvanceStep, Ends, IsStopped, RunningStep, SubmitStep}
 use Rattle.macs_endpoint.specs.Value.{EndpointValue, IsAtRest, IsKeeping, IsReserving, IsSoundEndpoint, is_stopped}
 use Rattle.macs_endpoint.specs.Value.{state_of}
@@ -25,6 +26,7 @@ use Rattle.macs_endpoint.specs.declared.fault.StepFault.{StepFault}
 use Rattle.macs_endpoint.specs.declared.fault.StepFault.TheVariants as step
 use Rattle.macs_endpoint.specs.declared.fault.SubmitFault.{SubmitFault}
 use Rattle.macs_endpoint.specs.declared.fault.SubmitFault.TheVariants as submit
+use Rattle.macs_endpoint.specs.declared.fault.RestFault.TheVariants as rest
 use Rattle.macs_endpoint.specs.declared.progress.Step.{Step as Progress}
 use Rattle.macs_endpoint.specs.declared.progress.Step.TheVariants.{Done, Idle, Reserved, Worked}
 use Rattle.macs_endpoint.specs.declared.queue.Waiting.{Waiting}
@@ -57,6 +59,7 @@ stopped_none Advances (Advanced (Ok result)) stopped = absurd stopped
 stopped_none Advances (Advanced (Err fault)) stopped = refl
 stopped_none (Commands command) (Ran result) stopped = refl
 stopped_none Refills (Refilled result) stopped = refl
+stopped_none Rests (Rested result) stopped = refl
 stopped_none (Submits command) (Submitted result) stopped = refl
 stopped_none (Protects plain) (Protected result out) stopped = refl
 stopped_none (Receives frame) (Received result out) stopped = refl
@@ -99,6 +102,7 @@ module _ {D : Type 0} (disk_of : D → Disk) (old new : EndpointValue D) where
         → IsDone reply
     dones call (Ran result) moves whose = inl refl
     dones call (Refilled result) moves whose = inl refl
+    dones call (Rested result) moves whose = inl refl
     dones call (Submitted result) moves whose = inl refl
     dones call RefusedLong moves whose = inl refl
     dones call (AdvancedLong ticket) moves whose = inl refl
@@ -112,6 +116,7 @@ module _ {D : Type 0} (disk_of : D → Disk) (old new : EndpointValue D) where
         inr (refl, inr (inl (inr (done_free s first rest result t ends, λ idle. whose))))
     dones (Commands command) (Advanced (Ok (Done ticket result))) moves whose = absurd moves
     dones Refills (Advanced (Ok (Done ticket result))) moves whose = absurd moves
+    dones Rests (Advanced (Ok (Done ticket result))) moves whose = absurd moves
     dones (Submits command) (Advanced (Ok (Done ticket result))) moves whose = absurd moves
     dones (Protects plain) (Advanced (Ok (Done ticket result))) moves whose = absurd moves
     dones (Receives frame) (Advanced (Ok (Done ticket result))) moves whose = absurd moves
@@ -252,6 +257,13 @@ module _ {D : Type 0} (disk_of : D → Disk) (old new : EndpointValue D) where
       runs Refills (Refilled (Err refill.GenerationsSpent)) run moves still does stands whose calm = absurd calm
       runs Refills (Refilled (Err refill.Disk)) run moves still does stands whose calm =
           stops (Refilled (Err refill.Disk)) refl (ap (λ (x : State). x.stopped) moves.1)
+      runs Rests (Rested (Ok done)) run moves still does stands whose calm = absurd calm
+      runs Rests (Rested (Err rest.Stopped)) run moves still does stands whose calm = absurd moves
+      runs Rests (Rested (Err rest.Busy)) run moves still does stands whose calm =
+          keeps (Rested (Err rest.Busy)) refl still whose moves.1
+      runs Rests (Rested (Err rest.GenerationsSpent)) run moves still does stands whose calm = absurd calm
+      runs Rests (Rested (Err rest.Disk)) run moves still does stands whose calm =
+          stops (Rested (Err rest.Disk)) refl (ap (λ (x : State). x.stopped) moves.1)
       runs (Submits command) (Submitted result) run moves still does stands whose calm =
           submits command result moves still whose
       runs Advances (Advanced result) run moves still does stands whose calm = advance result moves (does run) calm

@@ -48,7 +48,7 @@ module _ {D : Type 0} (disk_of : D → disk.Disk) (e : EndpointValue D) (command
         ceilings = refl;
         limited = tt;
         still = refl;
-        rests = tt;
+        ends_work = tt;
         advances = tt;
         turn = whose;
         tx_counters = ap txsc.counters_of tx;

@@ -11,7 +11,7 @@ use Rattle.macs_store.specs.Standing.{Standing}
 use Rattle.macs_txsc.specs.Transmit.{TxSide}
 use Rattle.macs_rxsc.specs.Receive.{RxSide}
 use Rattle.macs_store.specs.Value.{IsIdle, standing_in}
-use Rattle.macs_endpoint.specs.Calls.{Fails, IsCall, Rests}
+use Rattle.macs_endpoint.specs.Calls.{Fails, IsCall, EndsWork}
 use Rattle.macs_endpoint.specs.Ceilings.{IsRefilled, Raise, StandsRefilled, first_raise, standing_with_raise}
 use Rattle.macs_endpoint.specs.Ceilings.{standing_with_reserved}
 use Rattle.macs_endpoint.specs.Limits.{IsLimited, IsStill}
@@ -108,17 +108,17 @@ module _ {D : Type 0} (disk_of : D → disk.Disk) where
       → StandsRefilled (tx_side (state_of e no_logs)) (rx_side (state_of e no_logs)) (standing_in e.store)
       e.reserving result (standing_in e.store)
       → IsLimited e Refills (Refilled result) e → IsStill e Refills (Refilled result) e
-      → Rests Refills (Refilled result) e
+      → EndsWork Refills (Refilled result) e
       → e.turn ≡ turn_after e Refills (Refilled result)
       → IsCall disk_of e Refills (Refilled result) e
-  unmoved e result step fails ceilings limited still rests turn =
+  unmoved e result step fails ceilings limited still ends_work turn =
       alone-call disk_of e e Refills (Refilled result) fails (λ backed. backed) (record {
         in_range = tt;
         step = λ logs. (logs, step logs);
         ceilings = ceilings;
         limited = limited;
         still = still;
-        rests = rests;
+        ends_work = ends_work;
         advances = tt;
         turn = turn;
         tx_counters = refl;
@@ -171,13 +171,13 @@ module _ {D : Type 0} (disk_of : D → disk.Disk) where
   still_turned old new (Err refill.Stopped) step still = absurd step
   still_turned old new (Err refill.Busy) step still = absurd step
 
-  rests_turned : (new : EndpointValue D) (turn : Turn) (result : Result (Unit {0}) RefillFault) → IsIdle new.store
-      → Rests Refills (Refilled result) (record new { turn = turn })
-  rests_turned new turn (Ok done) idle = idle
-  rests_turned new turn (Err refill.GenerationsSpent) idle = idle
-  rests_turned new turn (Err refill.Disk) idle = tt
-  rests_turned new turn (Err refill.Stopped) idle = tt
-  rests_turned new turn (Err refill.Busy) idle = tt
+  ends_turned : (new : EndpointValue D) (turn : Turn) (result : Result (Unit {0}) RefillFault) → IsIdle new.store
+      → EndsWork Refills (Refilled result) (record new { turn = turn })
+  ends_turned new turn (Ok done) idle = idle
+  ends_turned new turn (Err refill.GenerationsSpent) idle = idle
+  ends_turned new turn (Err refill.Disk) idle = tt
+  ends_turned new turn (Err refill.Stopped) idle = tt
+  ends_turned new turn (Err refill.Busy) idle = tt
 
   -- whose turn it is does not count on the disk
   pub turned_backed : (e : EndpointValue D) (turn : Turn) → IsBacked disk_of e
@@ -201,7 +201,7 @@ module _ {D : Type 0} (disk_of : D → disk.Disk) where
           ceilings = all.ceilings;
           limited = limited_by old new result reserves.limited;
           still = still_turned old new result (reserves.step no_logs) all.still;
-          rests = rests_turned new (turn_after_refill old.turn old.reserving) result reserves.idle;
+          ends_work = ends_turned new (turn_after_refill old.turn old.reserving) result reserves.idle;
           advances = tt;
           turn = turn_by old new result (reserves.step no_logs);
           tx_counters = reserves.tx_counters;

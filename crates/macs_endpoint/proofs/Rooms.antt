@@ -5,7 +5,6 @@ use Rattle.std.specs.Prelude.{IsSomeAnd, nat_lt}
 use Rattle.std.specs.Option.{option_map, option_map_or}
 use Rattle.std.proofs.lemmas.Bool.{cases_lt, eq-eqb, eqb-true}
 use Rattle.std.proofs.lemmas.Bool.Decides.{nat_tests}
-use Rattle.macs_fields.specs.First.{first}
 use Rattle.macs_aes.specs.declared.keys.Key.{Key}
 use Rattle.macs_config.specs.Config.{Config}
 use Rattle.macs_config.specs.Identity.{Identity}
@@ -39,11 +38,12 @@ use Rattle.macs_endpoint.specs.Ceilings.{standing_with_raise, standing_with_rese
 use Rattle.macs_endpoint.specs.Needed.{raise_in}
 use Rattle.macs_endpoint.specs.Value.{IsSoundEndpoint, IsRxWithin, IsTxWithin, EndpointValue, state_of}
 use Rattle.macs_endpoint.specs.Lives.{Lives, Transition}
-use Rattle.macs_endpoint.specs.Rooms.{HasRoom, IsBelow, IsEncodingAn, RxStays, SparesRx, SparesTx, TxStays}
+use Rattle.macs_endpoint.specs.Rooms.{HasRoom, IsBelow, IsEncodingAn, LowersNone, RxStays, SparesRx, SparesTx, TxStays}
 use Rattle.macs_endpoint.specs.Rooms.{frames_in_reply, frames_sent}
 use Rattle.macs_endpoint.specs.State.{Advanced, AdvancedLong, Advances, Call, Commands, Protected, Protects, Ran}
 use Rattle.macs_endpoint.specs.State.{Received, Receives, Refilled, Refills, RefusedLong, Reply, State, Submits}
 use Rattle.macs_endpoint.specs.State.{Submitted, command_made, no_logs, rx_side, tx_side}
+use Rattle.macs_endpoint.specs.State.{Rested, Rests}
 use Rattle.macs_endpoint.specs.Step.{Step, next_after}
 use Rattle.macs_endpoint.specs.declared.fault.ProtectFault.TheVariants as protect
 use Rattle.macs_endpoint.specs.declared.progress.Step.TheVariants.{Idle}
@@ -224,7 +224,8 @@ module _ (count used an : ℕ) (s t : State) (f g : Standing) where
 
   covers_by : (reserving : Option Raise) (call : Call) (reply : Reply) → PassesNone call → Step s call reply t
       → CeilingsAfter s f reserving call reply g
-      → SparesTx an (command_made s call reply) → Covers count used (s.next an) (f.ceilings.tx an)
+      → LowersNone call reply × SparesTx an (command_made s call reply)
+      → Covers count used (s.next an) (f.ceilings.tx an)
       → Covers count (used + frames_in_reply s.config.encoding an reply) (t.next an) (g.ceilings.tx an)
   covers_by reserving call reply quiet step stands keeps covers =
       covers_quiet (frames_in_reply s.config.encoding an reply) (command_made s call reply)
@@ -239,17 +240,20 @@ module _ (count used an : ℕ) (s t : State) (f g : Standing) where
       let parts = accept-parts x command y is in
       subst (λ (z : Standing). Covers count used (next_after command s.next an) (z.ceilings.tx an)) (sym parts.2)
       (covers_command count used an x.identity command tt s.next x.ceilings spares holds))
-      call reply stands keeps covers)
+      call reply stands keeps.0 keeps.1 covers)
 
   -- through a call
   covers_step : (reserving : Option Raise) (call : Call) (reply : Reply) → Step s call reply t
       → CeilingsAfter s f reserving call reply g
-      → SparesTx an (command_made s call reply) → Covers count used (s.next an) (f.ceilings.tx an)
+      → LowersNone call reply × SparesTx an (command_made s call reply)
+      → Covers count used (s.next an) (f.ceilings.tx an)
       → Covers count (used + frames_in_reply s.config.encoding an reply) (t.next an) (g.ceilings.tx an)
   covers_step reserving (Commands command) reply step stands keeps covers =
       covers_by reserving (Commands command) reply tt step stands keeps covers
   covers_step reserving Refills reply step stands keeps covers =
       covers_by reserving Refills reply tt step stands keeps covers
+  covers_step reserving Rests reply step stands keeps covers =
+      covers_by reserving Rests reply tt step stands keeps covers
   covers_step reserving (Submits command) reply step stands keeps covers =
       covers_by reserving (Submits command) reply tt step stands keeps covers
   covers_step reserving Advances reply step stands keeps covers =
@@ -274,6 +278,7 @@ module _ (count used an : ℕ) (s t : State) (f g : Standing) where
       absurd step.1
   covers_step reserving (Protects plain) (Ran result) step stands keeps covers = absurd (no-answer step)
   covers_step reserving (Protects plain) (Refilled result) step stands keeps covers = absurd (no-answer step)
+  covers_step reserving (Protects plain) (Rested result) step stands keeps covers = absurd (no-answer step)
   covers_step reserving (Protects plain) (Submitted result) step stands keeps covers = absurd (no-answer step)
   covers_step reserving (Protects plain) (Advanced result) step stands keeps covers = absurd (no-answer step)
   covers_step reserving (Protects plain) RefusedLong step stands keeps covers = absurd (no-answer step)
@@ -289,6 +294,7 @@ module _ (count used an : ℕ) (s t : State) (f g : Standing) where
   covers_step reserving (Receives frame) (Received (Err stopped) out) (inr step) stands keeps covers = absurd step.1
   covers_step reserving (Receives frame) (Ran result) step stands keeps covers = absurd (no-answer step)
   covers_step reserving (Receives frame) (Refilled result) step stands keeps covers = absurd (no-answer step)
+  covers_step reserving (Receives frame) (Rested result) step stands keeps covers = absurd (no-answer step)
   covers_step reserving (Receives frame) (Submitted result) step stands keeps covers = absurd (no-answer step)
   covers_step reserving (Receives frame) (Advanced result) step stands keeps covers = absurd (no-answer step)
   covers_step reserving (Receives frame) RefusedLong step stands keeps covers = absurd (no-answer step)
@@ -343,7 +349,7 @@ under_raise sci an pn s (RaiseRx need) higher under =
 under_stands : (sci : List ℕ) (an pn : ℕ) (s : State) (f g : Standing) (reserving : Option Raise)
     → ((raise : Raise) → reserving ≡ Some raise → IsHigher f raise)
     → (call : Call) (reply : Reply) → CeilingsAfter s f reserving call reply g
-    → SparesRx sci an (command_made s call reply)
+    → LowersNone call reply × SparesRx sci an (command_made s call reply)
     → IsUnder (f.ceilings.rx sci an) pn → IsUnder (g.ceilings.rx sci an) pn
 under_stands sci an pn s f g reserving higher call reply stands keeps under =
     stands-keep s f g reserving (λ (x : Standing). IsUnder (x.ceilings.rx sci an) pn)
@@ -355,7 +361,7 @@ under_stands sci an pn s f g reserving higher call reply stands keeps under =
     let parts = accept-parts x command y is in
     subst (λ (z : Standing). IsUnder (z.ceilings.rx sci an) pn) (sym parts.2)
     (under_command sci an pn x.identity command tt x.ceilings spares holds))
-    call reply stands keeps under
+    call reply stands keeps.0 keeps.1 under
 
 -- a ceiling that is not needed leaves room
 reach_unneeded : (block next seen pn ceiling : ℕ) → is_needed block next ceiling seen ≡ false → 1 ≤ block → pn < 2 ^ 32

@@ -19,6 +19,7 @@ use Rattle.macs_endpoint.specs.Rooms.{IsBelow, RxStays, SparesRx}
 use Rattle.macs_endpoint.specs.State.{Advanced, AdvancedLong, Advances, Call, Commands, Protected, Protects, Ran}
 use Rattle.macs_endpoint.specs.State.{Received, Receives, Refilled, Refills, RefusedLong, Reply, State, Submits}
 use Rattle.macs_endpoint.specs.State.{Submitted, command_made, no_logs, rx_side}
+use Rattle.macs_endpoint.specs.State.{Rested, Rests}
 use Rattle.macs_endpoint.specs.Step.{ArriveStep, Step, numbers_after}
 use Rattle.macs_endpoint.specs.Value.{EndpointValue, IsSoundEndpoint, state_of}
 use Rattle.macs_endpoint.specs.declared.fault.ProtectFault.TheVariants as protect
@@ -139,6 +140,7 @@ module _ (sci : List ℕ) (an pn : ℕ) where
         → HasSeen (t.numbers sci an) pn
     seen-step (Commands command) reply step spares seen = seen_quiet (Commands command) reply tt step spares seen
     seen-step Refills reply step spares seen = seen_quiet Refills reply tt step spares seen
+    seen-step Rests reply step spares seen = seen_quiet Rests reply tt step spares seen
     seen-step (Submits command) reply step spares seen = seen_quiet (Submits command) reply tt step spares seen
     seen-step Advances reply step spares seen = seen_quiet Advances reply tt step spares seen
     seen-step (Protects plain) (Protected (Ok number) out) (inl step) spares seen = absurd step.1
@@ -152,6 +154,7 @@ module _ (sci : List ℕ) (an pn : ℕ) where
     seen-step (Protects plain) (Protected (Err protect.Stopped) out) (inr step) spares seen = absurd step.1
     seen-step (Protects plain) (Ran result) step spares seen = absurd (no-answer step)
     seen-step (Protects plain) (Refilled result) step spares seen = absurd (no-answer step)
+    seen-step (Protects plain) (Rested result) step spares seen = absurd (no-answer step)
     seen-step (Protects plain) (Submitted result) step spares seen = absurd (no-answer step)
     seen-step (Protects plain) (Advanced result) step spares seen = absurd (no-answer step)
     seen-step (Protects plain) RefusedLong step spares seen = absurd (no-answer step)
@@ -172,6 +175,7 @@ module _ (sci : List ℕ) (an pn : ℕ) where
     seen-step (Receives frame) (Received (Err stopped) out) (inr step) spares seen = absurd step.1
     seen-step (Receives frame) (Ran result) step spares seen = absurd (no-answer step)
     seen-step (Receives frame) (Refilled result) step spares seen = absurd (no-answer step)
+    seen-step (Receives frame) (Rested result) step spares seen = absurd (no-answer step)
     seen-step (Receives frame) (Submitted result) step spares seen = absurd (no-answer step)
     seen-step (Receives frame) (Advanced result) step spares seen = absurd (no-answer step)
     seen-step (Receives frame) RefusedLong step spares seen = absurd (no-answer step)
@@ -203,7 +207,7 @@ module _ {D : Type 0} (disk_of : D → Disk) where
       let ended = lives.1.behaves.step no_logs in
       seen-lives sci an pn turns turn.after new lives.2 stays.1
       (seen-step sci an pn (state_of old no_logs) (state_of turn.after ended.0) turn.call turn.reply ended.1
-      stays.0 seen)
+      stays.0.1 seen)
 
   -- a frame that is held back was seen
   seen-held : (old new : EndpointValue D) (frame out : List ℕ) (a : Arrival)

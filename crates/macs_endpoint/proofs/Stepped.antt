@@ -77,7 +77,7 @@ module _ {D : Type 0} (disk_of : D → disk.Disk) (e : EndpointValue D) (running
           ceilings = ceilings;
           limited = tt;
           still = still-on e e new result goes;
-          rests = tt;
+          ends_work = tt;
           advances = λ runs. record { begins = λ idle. absurd (busy idle); goes_on = λ works. goes; one = one };
           turn = whose;
           tx_counters = tx_counters;

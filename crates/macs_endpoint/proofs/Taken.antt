@@ -124,7 +124,7 @@ module _ {D : Type 0} (disk_of : D → disk.Disk) (e : EndpointValue D) (running
       ceilings = stands;
       limited = tt;
       still = still-on e taken new result ((call.behaves.advances has.running).goes_on has.busy);
-      rests = tt;
+      ends_work = tt;
       advances = λ going. record {
         begins = λ nothing. begins;
         goes_on = λ busy. absurd (busy idle);
@@ -249,7 +249,7 @@ module _ {D : Type 0} (disk_of : D → disk.Disk) (e : EndpointValue D) (running
         ceilings = stands;
         limited = tt;
         still = still-same e (record other { store = e.store }) result refl;
-        rests = tt;
+        ends_work = tt;
         advances = λ going. record { begins = λ nothing. begins; goes_on = λ busy. absurd (busy idle); one = clock };
         turn = whose;
         tx_counters = ap txsc.counters_of tx;
@@ -283,7 +283,7 @@ stopped-step disk_of e stopped =
       ceilings = refl;
       limited = tt;
       still = refl;
-      rests = tt;
+      ends_work = tt;
       advances = λ going. absurd (not_stopped (is_stopped e) stopped going);
       turn = refl;
       tx_counters = refl;

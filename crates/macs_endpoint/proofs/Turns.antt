@@ -17,6 +17,7 @@ use Rattle.macs_endpoint.specs.Restart.{Fits, FitsCall, state_during, state_taki
 use Rattle.macs_endpoint.specs.Serving.{EndsAs, IsServed, Takes, Told, call_of, is_halt, reply_of}
 use Rattle.macs_endpoint.specs.State.{Advances, Call, Commands, Logs, Protects, Receives, Refills, Reply, State}
 use Rattle.macs_endpoint.specs.State.{Submits, state_with_under_way, no_logs}
+use Rattle.macs_endpoint.specs.State.{Rests}
 use Rattle.macs_endpoint.specs.Step.{Steps, Step}
 use Rattle.macs_endpoint.specs.declared.event.Answer.{Answer}
 use Rattle.macs_endpoint.specs.declared.event.Event.{Event}
@@ -72,6 +73,7 @@ module _ (edition : Edition) (sectors : ℕ) (image : Image) (s : State) (fits :
       → Fits edition sectors image (state_during s call)
   fits_during (Commands command) free = fits_alone command s.waiting free
   fits_during Refills free = fits
+  fits_during Rests free = fits
   fits_during (Submits command) free = fits
   fits_during Advances free = fits-advancing sectors image fits.is_found.0 edition s fits
   fits_during (Protects plain) free = fits

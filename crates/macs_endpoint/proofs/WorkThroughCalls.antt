@@ -5,18 +5,20 @@ use Rattle.macs_disk.specs.Disk.{Disk}
 use Rattle.macs_store.specs.Keeps.{most_calls}
 use Rattle.macs_store.specs.Value.{IsIdle, StoreValue, calls_left}
 use Rattle.macs_endpoint.specs.Advancing.{BeginsWith, GoesOn, Due, ToKeep, ToRaise, next_due}
-use Rattle.macs_endpoint.specs.Calls.{AdvancesIn, IsCall, Rests}
+use Rattle.macs_endpoint.specs.Calls.{AdvancesIn, IsCall, EndsWork}
 use Rattle.macs_endpoint.specs.WorkThroughCalls.{Lasts, steps_in_call, steps_made}
 use Rattle.macs_endpoint.specs.Limits.{IsStill}
 use Rattle.macs_endpoint.specs.Lives.{Lives, Transition}
 use Rattle.macs_endpoint.specs.State.{Advanced, AdvancedLong, Advances, Call, Commands, Logs, Protected, Protects, Ran}
 use Rattle.macs_endpoint.specs.State.{Received, Receives, Refilled, Refills, RefusedLong, Reply, State, Submits}
 use Rattle.macs_endpoint.specs.State.{Submitted, no_logs}
+use Rattle.macs_endpoint.specs.State.{Rested, Rests}
 use Rattle.macs_endpoint.specs.Step.{AdvanceStep, RunningStep}
 use Rattle.macs_endpoint.specs.Value.{EndpointValue, is_stopped, state_of}
 use Rattle.macs_endpoint.specs.declared.fault.CommandFault.TheVariants as ran
 use Rattle.macs_endpoint.specs.declared.fault.RefillFault.TheVariants as refill
 use Rattle.macs_endpoint.specs.declared.fault.StepFault.TheVariants as step
+use Rattle.macs_endpoint.specs.declared.fault.RestFault.TheVariants as rest
 use Rattle.macs_endpoint.specs.declared.fault.StepFault.{StepFault}
 use Rattle.macs_endpoint.specs.declared.progress.Step.{Step as Progress}
 use Rattle.macs_endpoint.specs.declared.progress.Step.TheVariants.{Done, Idle, Reserved, Worked}
@@ -66,7 +68,7 @@ module _ {D : Type 0} (disk_of : D → Disk) (old new : EndpointValue D) (busy :
     ]
 
     runs : (call : Call) (reply : Reply) → is_stopped old ≡ false → RunningStep s call reply t
-        → IsStill old call reply new → Rests call reply new
+        → IsStill old call reply new → EndsWork call reply new
         → AdvancesIn disk_of old call reply new → LeavesFewer call
     runs (Commands command) (Ran (Ok done)) run moves still rests advanced = ends (Commands command) refl rests
     runs (Commands command) (Ran (Err ran.Stopped)) run moves still rests advanced = same (Commands command) refl still
@@ -83,6 +85,12 @@ module _ {D : Type 0} (disk_of : D → Disk) (old new : EndpointValue D) (busy :
     runs Refills (Refilled (Err refill.GenerationsSpent)) run moves still rests advanced = ends Refills refl rests
     runs Refills (Refilled (Err refill.Disk)) run moves still rests advanced =
         fails (ap (λ (x : State). x.stopped) moves.1)
+    runs Rests (Rested (Ok done)) run moves still rests advanced = ends Rests refl rests
+    runs Rests (Rested (Err rest.Stopped)) run moves still rests advanced = same Rests refl still
+    runs Rests (Rested (Err rest.Busy)) run moves still rests advanced = same Rests refl still
+    runs Rests (Rested (Err rest.GenerationsSpent)) run moves still rests advanced = ends Rests refl rests
+    runs Rests (Rested (Err rest.Disk)) run moves still rests advanced =
+        fails (ap (λ (x : State). x.stopped) moves.1)
     runs (Submits command) (Submitted result) run moves still rests advanced = same (Submits command) refl still
     runs Advances (Advanced result) run moves still rests advanced = advances result moves ((advanced run).goes_on busy)
     runs (Protects plain) (Protected result out) run moves still rests advanced = same (Protects plain) refl still
@@ -96,7 +104,7 @@ module _ {D : Type 0} (disk_of : D → Disk) (old new : EndpointValue D) (busy :
       let one = is.behaves.step no_logs in
       elim one.1 [
         | inl stopped ↦ fails (still_stopped (state_of old no_logs) (state_of new one.0) stopped.0 stopped.2)
-        | inr steps ↦ runs one.0 call reply steps.0 steps.1 is.behaves.still is.behaves.rests is.behaves.advances
+        | inr steps ↦ runs one.0 call reply steps.0 steps.1 is.behaves.still is.behaves.ends_work is.behaves.advances
       ]
 
 -- ---- through calls

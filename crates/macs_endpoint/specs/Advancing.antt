@@ -7,10 +7,11 @@ use Rattle.macs_store.specs.Value.{IsIdle, calls_left}
 use Rattle.macs_endpoint.specs.Ceilings.{Raise}
 use Rattle.macs_endpoint.specs.Needed.{raise_in}
 use Rattle.macs_endpoint.specs.Queue.{first_waiting}
-use Rattle.macs_endpoint.specs.State.{Advanced, Advances, Call, Commands, Ran, Refilled, Refills, Reply}
+use Rattle.macs_endpoint.specs.State.{Advanced, Advances, Call, Commands, Ran, Refilled, Refills, Reply, Rested, Rests}
 use Rattle.macs_endpoint.specs.Value.{EndpointValue, disk_in}
 use Rattle.macs_endpoint.specs.declared.fault.CommandFault.TheVariants as ran
 use Rattle.macs_endpoint.specs.declared.fault.RefillFault.TheVariants as refill
+use Rattle.macs_endpoint.specs.declared.fault.RestFault.TheVariants as rest
 use Rattle.macs_endpoint.specs.declared.fault.StepFault.{StepFault}
 use Rattle.macs_endpoint.specs.declared.fault.StepFault.TheVariants as step
 use Rattle.macs_endpoint.specs.declared.progress.Step.{Step as Progress}
@@ -50,7 +51,7 @@ turn_after_step whose (Ok (Done ticket result)) = turn.Reservation
 turn_after_step whose (Err step.GenerationsSpent) = turn.Command
 turn_after_step whose result = whose
 
--- whose turn it is after a refill that finished the reservation under way
+-- whose turn it is after a refill or a rest that finished the reservation under way
 abbrev pub turn_after_refill : Turn → Option Raise → Turn
 turn_after_refill whose None = whose
 turn_after_refill whose (Some raise) = turn.Command
@@ -63,6 +64,9 @@ turn_after e (Commands command) (Ran result) = turn.Reservation
 turn_after e Refills (Refilled (Err refill.Stopped)) = e.turn
 turn_after e Refills (Refilled (Err refill.Busy)) = e.turn
 turn_after e Refills (Refilled result) = turn_after_refill e.turn e.reserving
+turn_after e Rests (Rested (Err rest.Stopped)) = e.turn
+turn_after e Rests (Rested (Err rest.Busy)) = e.turn
+turn_after e Rests (Rested result) = turn_after_refill e.turn e.reserving
 turn_after e Advances (Advanced result) = turn_after_step e.turn result
 turn_after e call reply = e.turn
 

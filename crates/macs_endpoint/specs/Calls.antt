@@ -12,11 +12,12 @@ use Rattle.macs_endpoint.specs.Counting.{channel_counters_after, rx_counters_aft
 use Rattle.macs_endpoint.specs.Limits.{IsLimited, IsStill}
 use Rattle.macs_endpoint.specs.Restart.{FitsCall}
 use Rattle.macs_endpoint.specs.State.{Advanced, Advances, Call, Commands, Logs, Protects, Ran, Receives, Refilled}
-use Rattle.macs_endpoint.specs.State.{Refills, Reply, Submits, no_logs}
+use Rattle.macs_endpoint.specs.State.{Refills, Reply, Rested, Rests, Submits, no_logs}
 use Rattle.macs_endpoint.specs.Step.{Step}
 use Rattle.macs_endpoint.specs.Value.{EndpointValue, IsBacked, disk_in, is_stopped, state_of}
 use Rattle.macs_endpoint.specs.declared.fault.CommandFault.TheVariants as ran
 use Rattle.macs_endpoint.specs.declared.fault.RefillFault.TheVariants as refill
+use Rattle.macs_endpoint.specs.declared.fault.RestFault.TheVariants as rest
 use Rattle.macs_endpoint.specs.declared.fault.StepFault.TheVariants as step
 
 -- ---- the arguments of a call
@@ -25,6 +26,7 @@ use Rattle.macs_endpoint.specs.declared.fault.StepFault.TheVariants as step
 abbrev pub IsInRange : Call → Type 0
 IsInRange (Commands command) = IsCommand command
 IsInRange Refills = Unit {0}
+IsInRange Rests = Unit {0}
 IsInRange (Submits command) = IsCommand command
 IsInRange Advances = Unit {0}
 IsInRange (Protects plain) = All (λ octet. octet < 2 ^ 8) plain
@@ -37,13 +39,15 @@ abbrev pub AdvancesIn : {D : Type 0} → (D → Disk) → EndpointValue D → Ca
 AdvancesIn disk_of old Advances (Advanced result) new = is_stopped old ≡ false → AdvancesAs disk_of old result new
 AdvancesIn disk_of old call reply new = Unit {0}
 
--- no work is under way after a command or a refill that ran to its end, or that the journal has no room for
-abbrev pub Rests : {D : Type 0} → Call → Reply → EndpointValue D → Type 0
-Rests (Commands command) (Ran (Ok done)) new = IsIdle new.store
-Rests (Commands command) (Ran (Err ran.GenerationsSpent)) new = IsIdle new.store
-Rests Refills (Refilled (Ok done)) new = IsIdle new.store
-Rests Refills (Refilled (Err refill.GenerationsSpent)) new = IsIdle new.store
-Rests call reply new = Unit {0}
+-- no work is under way after a command, a refill or a rest that ran to its end, or that the journal has no room for
+abbrev pub EndsWork : {D : Type 0} → Call → Reply → EndpointValue D → Type 0
+EndsWork (Commands command) (Ran (Ok done)) new = IsIdle new.store
+EndsWork (Commands command) (Ran (Err ran.GenerationsSpent)) new = IsIdle new.store
+EndsWork Refills (Refilled (Ok done)) new = IsIdle new.store
+EndsWork Refills (Refilled (Err refill.GenerationsSpent)) new = IsIdle new.store
+EndsWork Rests (Rested (Ok done)) new = IsIdle new.store
+EndsWork Rests (Rested (Err rest.GenerationsSpent)) new = IsIdle new.store
+EndsWork call reply new = Unit {0}
 
 -- What a caller sees of one call: its arguments are in range; it is a step of the machine; the new configuration and
 -- ceilings; when the answers occur that a step leaves to the endpoint; which calls make no device call; after which no
@@ -56,7 +60,7 @@ pub record CallBehaves {D : Type 0} (disk_of : D → Disk) (old : EndpointValue 
       (standing_in new.store)
   pub limited : IsLimited old call reply new
   pub still : IsStill old call reply new
-  pub rests : Rests call reply new
+  pub ends_work : EndsWork call reply new
   pub advances : AdvancesIn disk_of old call reply new
   pub turn : new.turn ≡ turn_after old call reply
   pub tx_counters : txsc.counters_of new.tx
@@ -69,6 +73,7 @@ pub record CallBehaves {D : Type 0} (disk_of : D → Disk) (old : EndpointValue 
 abbrev pub Fails : Disk → Disk → Reply → Type 0
 Fails old new (Ran (Err ran.Disk)) = FailsOnce old new
 Fails old new (Refilled (Err refill.Disk)) = FailsOnce old new
+Fails old new (Rested (Err rest.Disk)) = FailsOnce old new
 Fails old new (Advanced (Err step.Disk)) = FailsOnce old new
 Fails old new reply = new.failures ≡ old.failures
 

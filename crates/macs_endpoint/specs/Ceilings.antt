@@ -1,19 +1,22 @@
 -- What a call does to the ceilings of packet numbers.
 use Rattle.std.specs.Prelude.{◌≡◌, ◌⊎◌, ◌<◌, ◌^◌, IfSome, IsSome, ℕ, List, [], ◌∷◌, Option, Some, None, Result, Ok, Err}
+use Rattle.std.specs.Option.{option_map}
 use Rattle.macs_config.specs.Numbers.{block_beyond}
 use Rattle.macs_config.specs.declared.command.Command.{Command}
 use Rattle.macs_txsc.specs.Transmit.{TxSide}
 use Rattle.macs_txsc.specs.Transmit as tx
 use Rattle.macs_rxsc.specs.Needs.{Need}
 use Rattle.macs_rxsc.specs.Needs as rx
-use Rattle.macs_rxsc.specs.Receive.{RxSide}
-use Rattle.macs_store.specs.Standing.{Standing, accept, standing_with_rx_raised, standing_with_tx_raised}
-use Rattle.macs_endpoint.specs.State.{Advanced, Advances, Call, Commands, Ran, Refilled, Refills, Reply, State}
-use Rattle.macs_endpoint.specs.State.{command_made, rx_side, tx_side}
+use Rattle.macs_rxsc.specs.Receive.{Numbers, RxSide}
+use Rattle.macs_store.specs.Standing.{Ceilings, Standing, accept, standing_with_rx_raised, standing_with_tx_raised}
+use Rattle.macs_endpoint.specs.State.{Advanced, Advances, Call, Commands, Ran, Refilled, Refills, Reply, Rested, Rests}
+use Rattle.macs_endpoint.specs.State.{State, command_made, rx_side, tx_side}
 use Rattle.macs_endpoint.specs.declared.fault.CommandFault.{CommandFault}
 use Rattle.macs_endpoint.specs.declared.fault.CommandFault.TheVariants as ran
 use Rattle.macs_endpoint.specs.declared.fault.RefillFault.{RefillFault}
 use Rattle.macs_endpoint.specs.declared.fault.RefillFault.TheVariants as refill
+use Rattle.macs_endpoint.specs.declared.fault.RestFault.{RestFault}
+use Rattle.macs_endpoint.specs.declared.fault.RestFault.TheVariants as rest
 use Rattle.macs_endpoint.specs.declared.fault.StepFault.{StepFault}
 use Rattle.macs_endpoint.specs.declared.progress.Step.{Step as Progress}
 use Rattle.macs_endpoint.specs.declared.progress.Step.TheVariants.{Reserved}
@@ -95,6 +98,21 @@ StandsRefilled tx_side rx_side old reserving (Err refill.Disk) new =
     ⊎ ((raise : Raise) × IsRefilled tx_side rx_side (standing_with_reserved old reserving) new (Some raise))
 StandsRefilled tx_side rx_side old reserving (Err fault) new = new ≡ old
 
+-- the next packet numbers, as ceilings: below them numbers were used, and from them on none
+abbrev pub next_ceilings : State → Ceilings
+next_ceilings s = record {
+  tx = s.next;
+  rx = λ sci an. option_map (λ (n : Numbers). n.next) (s.numbers sci an);
+}
+
+-- The standing after a rest with this answer: a reservation under way is finished first; then each ceiling is the next
+-- packet number, or stays
+abbrev pub StandsRested : State → Standing → Option Raise → Result (Unit {0}) RestFault → Standing → Type 0
+StandsRested s old reserving (Ok done) new = new ≡ record old { ceilings = next_ceilings s }
+StandsRested s old reserving (Err rest.GenerationsSpent) new = new ≡ standing_with_reserved old reserving
+StandsRested s old reserving (Err rest.Disk) new = (new ≡ old) ⊎ (new ≡ standing_with_reserved old reserving)
+StandsRested s old reserving (Err fault) new = new ≡ old
+
 -- the standing after a step with this answer: the reservation under way is done, or a command took effect, or nothing
 -- changed
 abbrev pub StandsAdvanced : Standing → Option Raise → Option Command → Result Progress StepFault → Standing → Type 0
@@ -107,6 +125,7 @@ abbrev pub CeilingsAfter : State → Standing → Option Raise → Call → Repl
 CeilingsAfter s old reserving (Commands command) (Ran result) new = StandsRan old reserving command result new
 CeilingsAfter s old reserving Refills (Refilled result) new =
     StandsRefilled (tx_side s) (rx_side s) old reserving result new
+CeilingsAfter s old reserving Rests (Rested result) new = StandsRested s old reserving result new
 CeilingsAfter s old reserving Advances (Advanced result) new =
     StandsAdvanced old reserving (command_made s Advances (Advanced result)) result new
 CeilingsAfter s old reserving call reply new = new ≡ old

@@ -7,6 +7,8 @@ use Rattle.macs_endpoint.specs.declared.fault.CommandFault.{CommandFault}
 use Rattle.macs_endpoint.specs.declared.fault.CommandFault.TheVariants as command
 use Rattle.macs_endpoint.specs.declared.fault.RefillFault.{RefillFault}
 use Rattle.macs_endpoint.specs.declared.fault.RefillFault.TheVariants.{Disk, GenerationsSpent, Stopped}
+use Rattle.macs_endpoint.specs.declared.fault.RestFault.{RestFault}
+use Rattle.macs_endpoint.specs.declared.fault.RestFault.TheVariants as rest
 use Rattle.macs_endpoint.specs.declared.fault.StepFault.{StepFault}
 use Rattle.macs_endpoint.specs.declared.fault.StepFault.TheVariants as step
 
@@ -15,6 +17,12 @@ abbrev pub refill_fault_of : JournalFault → RefillFault
 refill_fault_of journal.Stopped = Stopped
 refill_fault_of journal.GenerationsSpent = GenerationsSpent
 refill_fault_of fault = Disk
+
+-- the fault of a rest for that of the store, which is only Stopped, GenerationsSpent or Disk
+abbrev pub rest_fault_of : JournalFault → RestFault
+rest_fault_of journal.Stopped = rest.Stopped
+rest_fault_of journal.GenerationsSpent = rest.GenerationsSpent
+rest_fault_of fault = rest.Disk
 
 -- the fault of a refill with the name of a step's
 abbrev pub refill_fault_named : StepFault → RefillFault

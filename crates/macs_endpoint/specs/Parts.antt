@@ -1,5 +1,10 @@
 -- An endpoint in memory, given by the fields of the program's type.
 use Rattle.std.specs.Option.{option_map}
+use Rattle.macs_txsc.specs.Value as txsc
+use Rattle.macs_txsc.specs.declared.channel.Tx.{Tx}
+use Rattle.macs_rxsc.specs.Receive.{Numbers}
+use Rattle.macs_rxsc.specs.Value as rxsc
+use Rattle.macs_store.specs.Standing.{Ceilings}
 use Rattle.macs_store.specs.Value.{StoreValue}
 use Rattle.macs_endpoint.specs.Queue.{QueueValue}
 use Rattle.macs_endpoint.specs.PrivateTypes.{raise_of}
@@ -18,4 +23,11 @@ endpoint_of store channels queue turn = record {
   waiting = queue.waiting;
   tickets = queue.given;
   turn = turn;
+}
+
+-- the next packet numbers of channels, as ceilings
+abbrev pub next_of : Tx → rxsc.RxValue → Ceilings
+next_of tx rx = record {
+  tx = (txsc.tx_side_of tx).next;
+  rx = λ sci an. option_map (λ (n : Numbers). n.next) ((rxsc.rx_side_of rx).numbers sci an);
 }

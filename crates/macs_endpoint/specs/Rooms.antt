@@ -7,7 +7,12 @@ use Rattle.macs_config.specs.declared.command.Command.TheVariants.{RxDrop, RxIns
 use Rattle.macs_store.specs.Value.{standing_in}
 use Rattle.macs_endpoint.specs.Value.{EndpointValue, state_of}
 use Rattle.macs_endpoint.specs.Lives.{Transition}
-use Rattle.macs_endpoint.specs.State.{Protected, Reply, command_made, no_logs}
+use Rattle.macs_endpoint.specs.State.{Call, Protected, Reply, Rested, Rests, command_made, no_logs}
+
+-- a call does not lower ceilings: it is no rest, or one that failed
+abbrev pub LowersNone : Call → Reply → Type 0
+LowersNone Rests (Rested (Ok done)) = ⊥
+LowersNone call reply = Unit {0}
 
 -- ---- transmission
 
@@ -29,10 +34,12 @@ SparesTx an (Some (TxInstall installed key start confidential offset)) = install
 SparesTx an (Some (TxRemove removed)) = removed ≢ an
 SparesTx an command = Unit {0}
 
--- no command that these calls made durable removes or replaces the transmit association at this AN
+-- no command that these calls made durable removes or replaces the transmit association at this AN, and none lowers
+-- its ceiling
 abbrev pub TxStays : {D : Type 0} → ℕ → EndpointValue D → List (Transition D) → Type 0
 TxStays an e [] = Unit {0}
-TxStays an e (turn ∷ turns) = SparesTx an (command_made (state_of e no_logs) turn.call turn.reply)
+TxStays an e (turn ∷ turns) =
+    (LowersNone turn.call turn.reply × SparesTx an (command_made (state_of e no_logs) turn.call turn.reply))
     × TxStays an turn.after turns
 
 -- 1 if the encoding association is at this AN and a frame was sent, else 0
@@ -62,8 +69,10 @@ SparesRx sci an (Some (RxInstall channel installed key start offset)) = (channel
 SparesRx sci an (Some (RxRemove channel removed)) = (channel ≢ sci) ⊎ (removed ≢ an)
 SparesRx sci an command = Unit {0}
 
--- no command that these calls made durable removes or replaces the receive association with this SCI and AN
+-- no command that these calls made durable removes or replaces the receive association with this SCI and AN, and none
+-- lowers its ceiling
 abbrev pub RxStays : {D : Type 0} → List ℕ → ℕ → EndpointValue D → List (Transition D) → Type 0
 RxStays sci an e [] = Unit {0}
-RxStays sci an e (turn ∷ turns) = SparesRx sci an (command_made (state_of e no_logs) turn.call turn.reply)
+RxStays sci an e (turn ∷ turns) =
+    (LowersNone turn.call turn.reply × SparesRx sci an (command_made (state_of e no_logs) turn.call turn.reply))
     × RxStays sci an turn.after turns

@@ -12,6 +12,7 @@ use Rattle.macs_endpoint.specs.Queue.{first_command}
 use Rattle.macs_endpoint.specs.declared.fault.CommandFault.{CommandFault}
 use Rattle.macs_endpoint.specs.declared.fault.ProtectFault.{ProtectFault}
 use Rattle.macs_endpoint.specs.declared.fault.RefillFault.{RefillFault}
+use Rattle.macs_endpoint.specs.declared.fault.RestFault.{RestFault}
 use Rattle.macs_endpoint.specs.declared.fault.StepFault.{StepFault}
 use Rattle.macs_endpoint.specs.declared.fault.Stopped.{Stopped}
 use Rattle.macs_endpoint.specs.declared.fault.SubmitFault.{SubmitFault}
@@ -106,11 +107,12 @@ NoneWait s = s.waiting ≡ []
 
 -- ---- calls
 
--- a command, a refill of the ceilings, a submitted command, one device call of the pending work, or a frame from the
--- controlled or the common port
+-- a command, a refill of the ceilings, a rest before a planned end, a submitted command, one device call of the pending
+-- work, or a frame from the controlled or the common port
 pub data Call : Type 0 where
   Commands : Command → Call
   Refills : Call
+  Rests : Call
   Submits : Command → Call
   Advances : Call
   Protects : (plain : List ℕ) → Call
@@ -121,6 +123,7 @@ pub data Call : Type 0 where
 pub data Reply : Type 0 where
   Ran : Result (Unit {0}) CommandFault → Reply
   Refilled : Result (Unit {0}) RefillFault → Reply
+  Rested : Result (Unit {0}) RestFault → Reply
   Submitted : Result ℕ SubmitFault → Reply
   Advanced : Result Progress StepFault → Reply
   Protected : Result ℕ ProtectFault → (out : List ℕ) → Reply

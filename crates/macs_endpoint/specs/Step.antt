@@ -23,6 +23,8 @@ use Rattle.macs_endpoint.specs.declared.fault.ProtectFault.{ProtectFault}
 use Rattle.macs_endpoint.specs.declared.fault.ProtectFault.TheVariants as protect
 use Rattle.macs_endpoint.specs.declared.fault.RefillFault.{RefillFault}
 use Rattle.macs_endpoint.specs.declared.fault.RefillFault.TheVariants as refill
+use Rattle.macs_endpoint.specs.declared.fault.RestFault.{RestFault}
+use Rattle.macs_endpoint.specs.declared.fault.RestFault.TheVariants as rest
 use Rattle.macs_endpoint.specs.declared.fault.StepFault.{StepFault}
 use Rattle.macs_endpoint.specs.declared.fault.StepFault.TheVariants as step
 use Rattle.macs_endpoint.specs.declared.fault.Stopped.{Stopped}
@@ -33,8 +35,9 @@ use Rattle.macs_endpoint.specs.declared.progress.Step.TheVariants.{Done, Idle, R
 use Rattle.macs_endpoint.specs.declared.queue.Waiting.{Waiting}
 use Rattle.macs_endpoint.specs.Queue.{last_ticket, queue_length, with_waiting}
 use Rattle.macs_endpoint.specs.State.{Accepts, Advanced, AdvancedLong, Advances, Call, Commands, NoneWait, Protects}
-use Rattle.macs_endpoint.specs.State.{Protected, Ran, Received, Receives, Refilled, Refills, RefusedLong, Reply, State}
-use Rattle.macs_endpoint.specs.State.{Submits, Submitted, state_after_fault, state_with_under_way, rx_side, tx_side}
+use Rattle.macs_endpoint.specs.State.{Protected, Ran, Received, Receives, Refilled, Refills, RefusedLong, Reply, Rested}
+use Rattle.macs_endpoint.specs.State.{Rests, State, Submits, Submitted, state_after_fault, state_with_under_way, rx_side}
+use Rattle.macs_endpoint.specs.State.{tx_side}
 
 -- ---- commands
 
@@ -160,6 +163,18 @@ RefillStep old (Err refill.GenerationsSpent) new = NoneWait old × (new ≡ old)
 RefillStep old (Err refill.Disk) new = NoneWait old × (new ≡ state_after_fault old)
 RefillStep old (Err refill.Stopped) new = ⊥
 
+-- the answer of a refill with the name of that of a rest
+abbrev pub as_refill : Result (Unit {0}) RestFault → Result (Unit {0}) RefillFault
+as_refill (Ok done) = Ok done
+as_refill (Err rest.Stopped) = Err refill.Stopped
+as_refill (Err rest.Busy) = Err refill.Busy
+as_refill (Err rest.GenerationsSpent) = Err refill.GenerationsSpent
+as_refill (Err rest.Disk) = Err refill.Disk
+
+-- a rest lowers the ceilings, which the state has not: to the state it is a refill
+abbrev pub RestStep : State → Result (Unit {0}) RestFault → State → Type 0
+RestStep old result new = RefillStep old (as_refill result) new
+
 -- ---- frames
 
 -- the state after a frame was sent
@@ -220,6 +235,7 @@ ReceiveStep old frame (Err stopped) out new = ⊥
 abbrev pub RunningStep : State → Call → Reply → State → Type 0
 RunningStep old (Commands command) (Ran result) new = CommandStep old command result new
 RunningStep old Refills (Refilled result) new = RefillStep old result new
+RunningStep old Rests (Rested result) new = RestStep old result new
 RunningStep old (Submits command) (Submitted result) new = SubmitStep old command result new
 RunningStep old Advances (Advanced result) new = AdvanceStep old result new
 RunningStep old (Protects plain) (Protected result out) new = ProtectStep old plain result out new
@@ -232,6 +248,7 @@ RunningStep old call reply new = ⊥
 abbrev pub IsStopped : Call → Reply → Type 0
 IsStopped (Commands command) (Ran (Err ran.Stopped)) = Unit {0}
 IsStopped Refills (Refilled (Err refill.Stopped)) = Unit {0}
+IsStopped Rests (Rested (Err rest.Stopped)) = Unit {0}
 IsStopped (Submits command) (Submitted (Err submit.Stopped)) = Unit {0}
 IsStopped Advances (Advanced (Err step.Stopped)) = Unit {0}
 IsStopped (Protects plain) (Protected (Err protect.Stopped) out) = out ≡ []

@@ -3,9 +3,10 @@ use Rattle.std.specs.Prelude.{◌≡◌, ◌≢◌, ◌+◌, ℕ, false, List, [
 use Rattle.macs_store.specs.Value.{IsIdle}
 use Rattle.macs_endpoint.specs.Lives.{Transition}
 use Rattle.macs_endpoint.specs.Needed.{raise_in}
-use Rattle.macs_endpoint.specs.State.{Advanced, Advances, Call, Refilled, Reply}
+use Rattle.macs_endpoint.specs.State.{Advanced, Advances, Call, Refilled, Reply, Rested}
 use Rattle.macs_endpoint.specs.Value.{EndpointValue, is_stopped}
 use Rattle.macs_endpoint.specs.declared.fault.RefillFault.TheVariants as refill
+use Rattle.macs_endpoint.specs.declared.fault.RestFault.TheVariants as rest
 use Rattle.macs_endpoint.specs.declared.fault.StepFault.TheVariants as step
 use Rattle.macs_endpoint.specs.declared.progress.Step.TheVariants.{Done, Reserved}
 
@@ -56,11 +57,14 @@ abbrev pub Needs : {D : Type 0} → EndpointValue D → List (Transition D) → 
 Needs e [] = Unit {0}
 Needs e (turn ∷ turns) = (raise_in e ≢ None) × Needs turn.after turns
 
--- an answer does not report that a step raised a ceiling, or that none can be raised
+-- an answer does not report that a step raised a ceiling, or that none can be raised; nor a rest, which may have
+-- finished a reservation
 abbrev pub IsNotReserved : Reply → Type 0
 IsNotReserved (Advanced (Ok Reserved)) = ⊥
 IsNotReserved (Advanced (Err step.GenerationsSpent)) = ⊥
 IsNotReserved (Refilled (Err refill.GenerationsSpent)) = ⊥
+IsNotReserved (Rested (Ok done)) = ⊥
+IsNotReserved (Rested (Err rest.GenerationsSpent)) = ⊥
 IsNotReserved reply = Unit {0}
 
 -- none of these answers does

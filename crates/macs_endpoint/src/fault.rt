@@ -107,6 +107,35 @@ impl From<StepFault> for RefillFault {
     }
 }
 
+/// Why an endpoint does not rest, in the order in which the faults are checked.
+#[derive(Clone, Copy, Debug, PartialEq, Eq)]
+pub enum RestFault {
+    /// A device call failed before: the disk must be opened again.
+    Stopped,
+    /// A submitted command is pending: nothing changes.
+    Busy,
+    /// The generation of the journal's current area is 2^64 - 1: it cannot be compacted, even if
+    /// slots are free.
+    GenerationsSpent,
+    /// A device call failed.
+    Disk,
+}
+
+impl From<JournalFault> for RestFault {
+    ghost use Rattle.std.specs.Prelude.{◌≡◌};
+    ghost use Rattle.macs_endpoint.specs.Faults.{rest_fault_of};
+
+    ghost from_gives = { λ fault e. e ≡ rest_fault_of fault };
+
+    fn from(fault: JournalFault) -> RestFault {
+        match fault {
+            JournalFault::Stopped => RestFault::Stopped,
+            JournalFault::GenerationsSpent => RestFault::GenerationsSpent,
+            _ => RestFault::Disk,
+        }
+    }
+}
+
 /// Why a plain frame is not sent.
 #[derive(Clone, Copy, Debug, PartialEq, Eq)]
 pub enum ProtectFault {

@@ -1,7 +1,7 @@
 //! Laws of the definitions, for the layers above.
 
 ghost use Rattle.std.specs.Prelude.{◌≡◌, ◌≢◌, ◌<◌, ◌≤◌, ◌⊎◌, ◌+◌, ◌/◌, ◌^◌, ◌-◌, Bool, ℕ, List, []};
-ghost use Rattle.std.specs.Prelude.{Some, Ok, Err};
+ghost use Rattle.std.specs.Prelude.{Some, Ok, Err, false};
 ghost use Rattle.macs_aes.specs.declared.keys.Key.{Key};
 ghost use Rattle.macs_config.specs.declared.command.Command.TheVariants.{TxInstall};
 ghost use Rattle.macs_txsc.specs.declared.fault.TxFault.TheVariants.{NoNumber};
@@ -12,7 +12,8 @@ ghost use Rattle.macs_store.specs.Value.{IsIdle, standing_in};
 ghost use Rattle.macs_endpoint.specs.Advancing.{ToRaise, next_due};
 ghost use Rattle.macs_endpoint.specs.Calls.{IsCall};
 ghost use Rattle.macs_endpoint.specs.Ceilings.{Raise, standing_with_raise};
-ghost use Rattle.macs_endpoint.specs.Value.{IsSoundEndpoint, EndpointValue, state_of};
+ghost use Rattle.macs_endpoint.specs.Value.{EndpointValue, IsBacked, IsSoundEndpoint, disk_in};
+ghost use Rattle.macs_endpoint.specs.Value.{is_stopped, state_of};
 ghost use Rattle.macs_endpoint.specs.WorkThroughCalls.{Lasts, Needs, NoneDone, NoneReserved};
 ghost use Rattle.macs_endpoint.specs.WorkThroughCalls.{commands_done, reservations_made};
 ghost use Rattle.macs_endpoint.specs.WorkThroughCalls.{steps_made};
@@ -24,6 +25,13 @@ ghost use Rattle.macs_endpoint.specs.State.{Received, Receives, Refilled, Refill
 ghost use Rattle.macs_endpoint.specs.State.{command_made, no_logs, rx_side};
 ghost use Rattle.macs_endpoint.specs.declared.fault.ProtectFault.TheVariants.{Tx};
 ghost use Rattle.macs_endpoint.specs.declared.progress.Step.TheVariants.{Idle, Reserved, Worked};
+ghost use Rattle.macs_disk.specs.Disk.{MayLeave};
+ghost use Rattle.macs_disk.specs.States.{Image};
+ghost use Rattle.macs_endpoint.specs.AtRest.{IsLevel, OpensAt, SkipsNone};
+ghost use Rattle.macs_endpoint.specs.Restart.{opened_state};
+ghost use Rattle.macs_store.specs.Found.{StandingIs};
+ghost use Rattle.macs_store.specs.Standing.{Standing};
+ghost use Rattle.macs_endpoint.specs.State.{Logs, Rested, Rests, State};
 
 use macs_disk::SectorDisk;
 
@@ -142,11 +150,27 @@ pub fn one_reservation_between<D: SectorDisk>()
 
 /// While a ceiling is needed at most one submitted command is completed before one is raised.
 ///
-/// While some ceiling is needed before each call, and no `step` returns `Reserved` and no `step` or
-/// `refill` returns `GenerationsSpent`, at most one step returns `Done`, no matter which other
-/// calls come between.
+/// While some ceiling is needed before each call, no `step` returns `Reserved`, no `rest` returns
+/// Ok, and no `step`, `refill` or `rest` returns `GenerationsSpent`, at most one step returns
+/// `Done`, no matter which other calls come between.
 pub fn one_command_between<D: SectorDisk>()
     ensures { (old new : EndpointValue D) (turns : List (Transition D)) → Lives D.disk old turns new
         → Needs old turns → NoneReserved turns
         → commands_done turns ≤ 1 }
+{}
+
+/// A planned end skips no packet number.
+///
+/// After `rest` returned Ok, each ceiling is the next packet number. As long as it is, and no device
+/// call failed, each image that a power loss leaves has exactly these numbers, so that an opening
+/// continues from them.
+pub fn rests_skip_no_number<D: SectorDisk>()
+    ensures level { (old new : EndpointValue D) → IsCall D.disk old Rests (Rested (Ok tt)) new
+        → IsLevel new }
+    ensures opens { (e : EndpointValue D) (logs : Logs) (image : Image) → IsLevel e
+        → is_stopped e ≡ false → IsBacked D.disk e → MayLeave (disk_in D.disk e) image
+        → OpensAt (disk_in D.disk e).sectors image (state_of e logs) }
+    ensures skips { (sectors : ℕ) (image : Image) (s : State) (found : Standing) (logs : Logs)
+        → OpensAt sectors image s → StandingIs s.edition sectors image (Ok found)
+        → SkipsNone s (opened_state found logs) }
 {}

@@ -14,6 +14,7 @@ mod ports;
 mod progress;
 mod queue;
 mod refilling;
+mod resting;
 mod serving;
 mod stepping;
 mod turn;
@@ -22,7 +23,9 @@ mod under_way;
 pub use counters::Counters;
 pub use endpoint::Endpoint;
 pub use event::{Answer, Event, ServeEnd};
-pub use fault::{CommandFault, ProtectFault, RefillFault, StepFault, Stopped, SubmitFault};
+pub use fault::{
+    CommandFault, ProtectFault, RefillFault, RestFault, StepFault, Stopped, SubmitFault,
+};
 pub use formatting::format;
 pub use opening::OpenRefused;
 pub use ports::{AnswerSink, EventSource};

@@ -54,9 +54,9 @@ impl<D: SectorDisk> Endpoint<D> {
         result
     }
 
-    /// Whose turn it is after a refill: a command's if a reservation is under way, otherwise
-    /// unchanged.
-    fn turn_after_refill(&self) -> Turn
+    /// Whose turn it is after a refill or a rest: a command's if a reservation is under way,
+    /// otherwise unchanged.
+    pub(crate) fn turn_after_refill(&self) -> Turn
         ensures { result ≡ turn_after_refill self.now.turn self.now.reserving }
     {
         match self.queue.raise() {

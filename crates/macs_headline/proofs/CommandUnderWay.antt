@@ -24,6 +24,8 @@ use Rattle.macs_endpoint.specs.declared.queue.Waiting.{Waiting}
 use Rattle.macs_endpoint.specs.State.{Advanced, AdvancedLong, Advances, Call, Commands, Protected, Protects, Ran}
 use Rattle.macs_endpoint.specs.State.{Received, Receives, Refilled, Refills, RefusedLong, Reply, State, Submits}
 use Rattle.macs_endpoint.specs.State.{Submitted, state_with_under_way}
+use Rattle.macs_endpoint.specs.State.{Rested, Rests}
+use Rattle.macs_endpoint.specs.Step.{as_refill}
 use Rattle.macs_endpoint.specs.Step.{AdvanceStep, CommandStep, Ends, Exchange, ProtectStep, ReceiveStep, RefillStep}
 use Rattle.macs_endpoint.specs.Step.{RunningStep, Step, Steps, SubmitStep, TakesUp}
 use Rattle.macs_headline.specs.CommandUnderWay.{UnderWayWasBegun, MayBegin, WasBegun}
@@ -125,6 +127,7 @@ by_call : (old : State) (call : Call) (reply : Reply) (new : State) → RunningS
     → IsAccepted new
 by_call old (Commands c) (Ran result) new h was = by_command old c result new h was
 by_call old Refills (Refilled result) new h was = by_refill old result new h was
+by_call old Rests (Rested result) new h was = by_refill old (as_refill result) new h was
 by_call old (Submits c) (Submitted result) new h was = by_submit old c result new h was
 by_call old Advances (Advanced result) new h was = by_advance old result new h was
 by_call old (Protects plain) (Protected result out) new h was = by_protect old plain result out new h was
@@ -199,6 +202,7 @@ module _ (exchanges : List Exchange) (s : State) (waits : s.waiting ≡ waiting_
   at_end None c is = by_answers None c is
   at_end (Some (Commands d)) c is = alone d s.waiting c refl is
   at_end (Some Refills) c is = by_answers (Some Refills) c is
+  at_end (Some Rests) c is = by_answers (Some Rests) c is
   at_end (Some (Submits d)) c is = by_answers (Some (Submits d)) c is
   at_end (Some Advances) c is = first_one s.under_way s.waiting c refl is
   at_end (Some (Protects plain)) c is = by_answers (Some (Protects plain)) c is

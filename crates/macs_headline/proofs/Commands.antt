@@ -29,6 +29,8 @@ use Rattle.macs_endpoint.specs.Restart.{Restart, opened_state}
 use Rattle.macs_endpoint.specs.State.{Advanced, AdvancedLong, Advances, Call, Commands, Protected, Protects, Ran}
 use Rattle.macs_endpoint.specs.State.{Received, Receives, Refilled, Refills, RefusedLong, Reply, State, Submits}
 use Rattle.macs_endpoint.specs.State.{Submitted}
+use Rattle.macs_endpoint.specs.State.{Rested, Rests}
+use Rattle.macs_endpoint.specs.Step.{as_refill}
 use Rattle.macs_endpoint.specs.Step.{AdvanceStep, CommandStep, Ends, RefusesFirst, Exchange, IsStopped, ProtectStep}
 use Rattle.macs_endpoint.specs.Step.{ReceiveStep, RefillStep, RunningStep, Step, Steps, SubmitStep, TakesUp}
 use Rattle.macs_headline.specs.Commands.{CommandsKept, CommandsMake, FindsPrefix, acknowledged_by}
@@ -233,6 +235,7 @@ by_call : (old : State) (call : Call) (reply : Reply) (new : State) → RunningS
     → IsMadeByCall old new call reply
 by_call old (Commands c) (Ran result) new h = by_command old c result new h
 by_call old Refills (Refilled result) new h = by_refill old result new h
+by_call old Rests (Rested result) new h = by_refill old (as_refill result) new h
 by_call old (Submits c) (Submitted result) new h = by_submit old c result new h
 by_call old Advances (Advanced result) new h = by_advance old result new h
 by_call old (Protects plain) (Protected result out) new h = by_protect old plain result out new h

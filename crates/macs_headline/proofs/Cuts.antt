@@ -25,6 +25,8 @@ use Rattle.macs_endpoint.specs.Restart.{state_taking_first}
 use Rattle.macs_endpoint.specs.State.{Advanced, AdvancedLong, Advances, Call, Commands, Logs, NoneWait, Protected}
 use Rattle.macs_endpoint.specs.State.{Protects, Ran, Received, Receives, Refilled, Refills, RefusedLong, Reply, State}
 use Rattle.macs_endpoint.specs.State.{Submits, Submitted, state_after_fault, state_with_under_way}
+use Rattle.macs_endpoint.specs.State.{Rested, Rests}
+use Rattle.macs_endpoint.specs.Step.{as_refill}
 use Rattle.macs_endpoint.specs.Step.{AdvanceStep, CommandStep, Ends, RefillStep, Step, TakesUp, state_after_command}
 use Rattle.macs_endpoint.specs.Step.{state_without_first}
 use Rattle.macs_endpoint.specs.Value.{EndpointValue, IsAtRest, IsBacked, IsKeeping, IsReserving, IsSoundEndpoint}
@@ -165,6 +167,7 @@ module _ (edition : Edition) (sectors : ℕ) (image : Image) where
   fits_during : (s : State) (call : Call) → IsSettled s → FitsHere s → FitsHere (state_during s call)
   fits_during s (Commands c) settled fits = fits_alone s c s.waiting settled.alone fits
   fits_during s Refills settled fits = fits
+  fits_during s Rests settled fits = fits
   fits_during s (Submits c) settled fits = fits
   fits_during s Advances settled fits = fits_first s s.under_way s.waiting refl fits
   fits_during s (Protects plain) settled fits = fits
@@ -338,6 +341,12 @@ module _ (edition : Edition) (sectors : ℕ) (image : Image) where
   during-refill old (Refilled result) new (inr (running, h)) fits = by_refill old result new h fits
   during-refill old reply new (inr (running, h)) fits = absurd h
 
+  pub during-rest : (old : State) (reply : Reply) (new : State) → Step old Rests reply new → FitsHere new
+      → FitsHere old
+  during-rest old reply new (inl (stopped, answer, is)) fits = subst FitsHere is fits
+  during-rest old (Rested result) new (inr (running, h)) fits = by_refill old (as_refill result) new h fits
+  during-rest old reply new (inr (running, h)) fits = absurd h
+
   pub during-step : (old : State) (reply : Reply) (new : State) → IsSettled old → Step old Advances reply new
       → FitsHere new → FitsHere (state_during old Advances)
   during-step old reply new settled (inl (stopped, answer, is)) fits =
@@ -399,6 +408,13 @@ module _ {D : Type 0} (disk_of : D → Disk) (last after : EndpointValue D) (log
       elim (((is.survives (is.device.works.honest ∙ honest) backed).any_moment logs step.0).each image left) [
         | inl before ↦ before
         | inr later ↦ during-refill this_edition (disk_in disk_of last).sectors image (state_of last logs) reply
+            (state_of after step.0) step.1 later
+      ]
+  cut-call Rests is image left =
+      let step = is.behaves.step logs in
+      elim (((is.survives (is.device.works.honest ∙ honest) backed).any_moment logs step.0).each image left) [
+        | inl before ↦ before
+        | inr later ↦ during-rest this_edition (disk_in disk_of last).sectors image (state_of last logs) reply
             (state_of after step.0) step.1 later
       ]
   cut-call (Submits c) is image left =

@@ -33,6 +33,8 @@ use Rattle.macs_endpoint.specs.declared.queue.Waiting.{Waiting}
 use Rattle.macs_endpoint.specs.State.{Advanced, AdvancedLong, Advances, Call, Commands, Delivery, Protected, Protects}
 use Rattle.macs_endpoint.specs.State.{Ran, Received, Receives, Refilled, Refills, RefusedLong, Reply, State, Submits}
 use Rattle.macs_endpoint.specs.State.{Submitted, Use, rx_side, tx_side}
+use Rattle.macs_endpoint.specs.State.{Rested, Rests}
+use Rattle.macs_endpoint.specs.Step.{as_refill}
 use Rattle.macs_endpoint.specs.Step.{AdvanceStep, CommandStep, Ends, ProtectStep, ReceiveStep, RefillStep, RunningStep}
 use Rattle.macs_endpoint.specs.Step.{Step, SubmitStep, TakesUp, next_after, numbers_after}
 use Rattle.macs_headline.proofs.Places.{put_rx}
@@ -209,6 +211,7 @@ by_call : (old : State) (call : Call) (reply : Reply) (new : State) → RunningS
     → Effect old.edition (core old) (core new)
 by_call old (Commands c) (Ran result) new h = by_command old c result new h
 by_call old Refills (Refilled result) new h = by_refill old result new h
+by_call old Rests (Rested result) new h = by_refill old (as_refill result) new h
 by_call old (Submits c) (Submitted result) new h = by_submit old c result new h
 by_call old Advances (Advanced result) new h = by_advance old result new h
 by_call old (Protects plain) (Protected result out) new h = by_protect old plain result out new h

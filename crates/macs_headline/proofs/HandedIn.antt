@@ -25,6 +25,8 @@ use Rattle.macs_endpoint.specs.Restart.{opened_state, state_taking_alone, state_
 use Rattle.macs_endpoint.specs.State.{Advanced, AdvancedLong, Advances, Call, Commands, Protected, Protects, Ran}
 use Rattle.macs_endpoint.specs.State.{Received, Receives, Refilled, Refills, RefusedLong, Reply, State, Submits}
 use Rattle.macs_endpoint.specs.State.{Submitted, state_with_under_way}
+use Rattle.macs_endpoint.specs.State.{Rested, Rests}
+use Rattle.macs_endpoint.specs.Step.{as_refill}
 use Rattle.macs_endpoint.specs.Step.{AdvanceStep, CommandStep, Ends, Exchange, ProtectStep, ReceiveStep, RefillStep}
 use Rattle.macs_endpoint.specs.Step.{RunningStep, Step, Steps, SubmitStep, TakesUp}
 use Rattle.macs_headline.specs.Commands.{UnderWayWasGiven, WasHandedIn, failing, waiting_at_end}
@@ -163,6 +165,7 @@ module _ (Failed : Command → Type 0) where
       → IsHeld old → IsHeld new
   by_call old (Commands c) (Ran result) new told running h held = by_command old c result new told h held
   by_call old Refills (Refilled result) new told running h held = by_refill old result new running h held
+  by_call old Rests (Rested result) new told running h held = by_refill old (as_refill result) new running h held
   by_call old (Submits c) (Submitted result) new told running h held = by_submit old c result new running h held
   by_call old Advances (Advanced result) new told running h held = by_advance old result new running h held
   by_call old (Protects plain) (Protected result out) new told running h held =
@@ -240,6 +243,7 @@ module _ (exchanges : List Exchange) (s : State) (waits : s.waiting ≡ waiting_
   at_end None c is = by_answers None c is
   at_end (Some (Commands d)) c is = alone_hand d s.waiting c refl is
   at_end (Some Refills) c is = by_answers (Some Refills) c is
+  at_end (Some Rests) c is = by_answers (Some Rests) c is
   at_end (Some (Submits d)) c is = by_answers (Some (Submits d)) c is
   at_end (Some Advances) c is = first_hand s.under_way s.waiting c refl is
   at_end (Some (Protects plain)) c is = by_answers (Some (Protects plain)) c is

@@ -13,6 +13,7 @@ use Rattle.macs_endpoint.specs.Ceilings.{Raise}
 use Rattle.macs_endpoint.specs.Restart.{Fits, state_during}
 use Rattle.macs_endpoint.specs.State.{Advances, Call, Commands, Protects, Receives}
 use Rattle.macs_endpoint.specs.State.{Refills, Submits}
+use Rattle.macs_endpoint.specs.State.{Rests}
 use Rattle.macs_endpoint.specs.declared.queue.Waiting.{Waiting}
 use Rattle.macs_endpoint.specs.Value.{EndpointValue, IsSoundEndpoint, disk_in, state_of}
 use Rattle.macs_headline.specs.Binding.{EndsAreCuts, HasHistory, IsAtMoment, LivesAreMoments}
@@ -184,6 +185,7 @@ module _ {D : Type 0} (disk_of : D → Disk) (sound : (it : D) → IsHonest (dis
       (state_at_end (state_of last living.logs) (cut_beginning (Some call) reserving next))) (disk_of new)
   covered_end (Commands c) reserving next new unbegun during = during
   covered_end Refills reserving next new unbegun during = during
+  covered_end Rests reserving next new unbegun during = during
   covered_end (Submits c) reserving next new unbegun during = during
   covered_end Advances None None new unbegun during = unbegun (λ first free is. none_is first is) refl
   covered_end Advances None (Some (ToRaise raise)) new unbegun during =

@@ -45,6 +45,8 @@ use Rattle.macs_endpoint.specs.Restart.{state_taking_first}
 use Rattle.macs_endpoint.specs.State.{Advanced, AdvancedLong, Advances, Call, Commands, Protected, Protects, Ran}
 use Rattle.macs_endpoint.specs.State.{Received, Receives, Refilled, Refills, RefusedLong, Reply, State, Submits}
 use Rattle.macs_endpoint.specs.State.{Submitted, no_logs, state_with_under_way, tx_side}
+use Rattle.macs_endpoint.specs.State.{Rested, Rests}
+use Rattle.macs_endpoint.specs.Step.{as_refill}
 use Rattle.macs_endpoint.specs.Step.{AdvanceStep, CommandStep, Ends, Exchange, Makes, ProtectStep, ReceiveStep}
 use Rattle.macs_endpoint.specs.Step.{RefillStep, RunningStep, Step, Steps, SubmitStep, TakesUp, next_after}
 use Rattle.macs_endpoint.specs.Step.{state_without_first}
@@ -354,6 +356,7 @@ module _ (edition : Edition) where
       → IsRanged edition old → IsRanged edition new
   by_call old (Commands c) (Ran result) new given h ranged = by_command old c result new given h ranged
   by_call old Refills (Refilled result) new given h ranged = by_refill old result new h ranged
+  by_call old Rests (Rested result) new given h ranged = by_refill old (as_refill result) new h ranged
   by_call old (Submits c) (Submitted result) new given h ranged = by_submit old c result new given h ranged
   by_call old Advances (Advanced result) new given h ranged = by_advance old result new h ranged
   by_call old (Protects plain) (Protected result out) new given h ranged = by_protect old plain result out new h ranged
@@ -404,6 +407,7 @@ module _ (edition : Edition) where
   end_range s None given ranged = ranged
   end_range s (Some (Commands c)) given ranged = alone_range s c s.waiting given ranged
   end_range s (Some Refills) given ranged = ranged
+  end_range s (Some Rests) given ranged = ranged
   end_range s (Some (Submits c)) given ranged = ranged
   end_range s (Some Advances) given ranged = first_range s s.under_way s.waiting ranged.queue ranged
   end_range s (Some (Protects plain)) given ranged = ranged

@@ -10,6 +10,7 @@ use Rattle.macs_config.specs.declared.command.Command.{Command}
 use Rattle.macs_rxsc.specs.Receive.{Numbers, first_numbers}
 use Rattle.macs_endpoint.specs.State.{Advances, Call, Commands, Protects, Receives, Refills, State, Submits}
 use Rattle.macs_endpoint.specs.State.{state_with_under_way}
+use Rattle.macs_endpoint.specs.State.{Rests}
 use Rattle.macs_endpoint.specs.Step.{Exchange, Steps}
 use Rattle.macs_endpoint.specs.Restart.{Restart, Resumes, RxRises, TxRises, state_during, state_taking}
 use Rattle.macs_endpoint.specs.Restart.{state_taking_alone, state_taking_first}
@@ -68,6 +69,7 @@ first_core s (Some c) waiting = refl
 during_core : (s : State) (call : Call) → core (state_during s call) ≡ core s
 during_core s (Commands c) = alone_core s c s.waiting
 during_core s Refills = refl
+during_core s Rests = refl
 during_core s (Submits c) = refl
 during_core s Advances = first_core s s.under_way s.waiting
 during_core s (Protects plain) = refl
@@ -100,6 +102,7 @@ first_edition s (Some c) waiting = refl
 during_edition : (s : State) (call : Call) → (state_during s call).edition ≡ s.edition
 during_edition s (Commands c) = alone_edition s c s.waiting
 during_edition s Refills = refl
+during_edition s Rests = refl
 during_edition s (Submits c) = refl
 during_edition s Advances = first_edition s s.under_way s.waiting
 during_edition s (Protects plain) = refl

@@ -6,3 +6,4 @@ pub mod Needs
 pub mod Needed
 pub mod Left
 pub mod Told
+pub mod Resting

@@ -99,3 +99,14 @@ association_under window a = record a { lowest = max a.lowest (a.next - window) 
 abbrev pub channel_under : ℕ → Channel → Channel
 channel_under window channel =
     record channel { associations = map (option_map (association_under window)) channel.associations }
+
+-- ---- ceilings fall
+
+-- an association whose ceiling fell to its next packet number
+abbrev pub association_at_rest : Association → Association
+association_at_rest a = record a { ceiling = a.next }
+
+-- the same of all associations of a channel
+abbrev pub channel_at_rest : Channel → Channel
+channel_at_rest channel =
+    record channel { associations = map (option_map association_at_rest) channel.associations }

@@ -8,7 +8,7 @@ ghost use Rattle.macs_rxsc.specs.Receive.{IsOutcome, RxSide, numbers_after_deliv
 ghost use Rattle.macs_rxsc.specs.Receive.{numbers_after_hold, delivery_kind, put_numbers};
 ghost use Rattle.macs_rxsc.specs.Receive.{seen_after};
 ghost use Rattle.macs_rxsc.specs.Needs.{Need, need_of};
-ghost use Rattle.macs_rxsc.specs.Value.{packet_numbers, sa_of, association_under};
+ghost use Rattle.macs_rxsc.specs.Value.{association_at_rest, packet_numbers, sa_of, association_under};
 
 use crate::need::RxNeed;
 use crate::policy::Policy;
@@ -61,7 +61,23 @@ pub(crate) fn slide_if_any(association: &mut Option<Association>, window: u32)
     }
 }
 
+/// Lowers the ceiling of an association to its next packet number, if there is one.
+pub(crate) fn lower_if_any(association: &mut Option<Association>)
+    ensures { association.new ≡ option_map association_at_rest association.old }
+{
+    if let Some(association) = association {
+        association.lower();
+    }
+}
+
 impl Association {
+    /// Lowers the ceiling to the next packet number.
+    pub(crate) fn lower(&mut self)
+        ensures { self.new ≡ association_at_rest self.old }
+    {
+        self.ceiling = self.next;
+    }
+
     /// Raises the lowest acceptable number to the next one minus the window. It never falls.
     pub(crate) fn slide(&mut self, window: u32)
         ensures { self.new ≡ association_under window self.old }

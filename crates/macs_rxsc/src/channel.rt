@@ -8,11 +8,11 @@ ghost use Rattle.macs_rxsc.specs.Receiving.{ChannelReceives};
 ghost use Rattle.macs_rxsc.specs.Needs.{Need, first_need, need_of};
 ghost use Rattle.macs_rxsc.specs.Counting.{channel_counters_after, no_channel_counts};
 ghost use Rattle.macs_rxsc.specs.Value.{ceilings_in, numbers_in, packet_numbers, sa_of, sas_in};
-ghost use Rattle.macs_rxsc.specs.Value.{association_under, channel_under};
+ghost use Rattle.macs_rxsc.specs.Value.{association_under, channel_at_rest, channel_under};
 ghost use Rattle.macs_config.specs.Tables.{put};
 ghost use Rattle.macs_rxsc.specs.declared.association.Association.{Association};
 
-use crate::association::{Association, RxNumbers, slide_if_any};
+use crate::association::{Association, RxNumbers, lower_if_any, slide_if_any};
 use crate::counters::ChannelCounters;
 use crate::need::RxNeed;
 use crate::policy::Policy;
@@ -79,6 +79,15 @@ impl Channel {
     {
         for association in self.associations.iter_mut() {
             slide_if_any(association, window);
+        }
+    }
+
+    /// Lowers the ceiling of each association to its next packet number.
+    pub(crate) fn lower(&mut self)
+        ensures { self.new ≡ channel_at_rest self.old }
+    {
+        for association in self.associations.iter_mut() {
+            lower_if_any(association);
         }
     }
 

@@ -106,6 +106,18 @@ impl Rx {
         self.table.slide(window);
     }
 
+    /// Lowers the ceiling of each association to its next packet number: no frame is delivered as
+    /// verified until it is raised again.
+    pub fn lower(&mut self)
+        ensures side { rx_side_of self.new ≡ rx_side_of self.old }
+        ensures ceilings { ceilings_of self.new ≡ (λ sci an. option_map (λ (n : Numbers). n.next)
+            ((rx_side_of self.old).numbers sci an)) }
+        ensures counters { counters_of self.new ≡ counters_of self.old }
+        ensures channel_counters { channel_counters_of self.new ≡ channel_counters_of self.old }
+    {
+        self.table.lower();
+    }
+
     /// Adds a channel with an unused SCI. There are fewer than 32.
     pub fn add(&mut self, sci: Sci)
         requires free { has_channel (rx_side_of self.old) sci ≡ false }

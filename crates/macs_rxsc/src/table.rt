@@ -14,7 +14,7 @@ ghost use Rattle.macs_rxsc.specs.Receiving.{TableReceives};
 ghost use Rattle.macs_rxsc.specs.Needs.{Need, first_need_of};
 ghost use Rattle.macs_rxsc.specs.Counting.{no_channel_counts};
 ghost use Rattle.macs_rxsc.specs.Value.{ceilings_among, channel_at, counters_among, packet_numbers};
-ghost use Rattle.macs_rxsc.specs.Value.{sa_of, scis_of, rx_side_in, channel_under};
+ghost use Rattle.macs_rxsc.specs.Value.{channel_at_rest, sa_of, scis_of, rx_side_in, channel_under};
 ghost use Rattle.macs_config.specs.declared.command.Replay.{Replay};
 ghost use Rattle.macs_config.specs.declared.command.Validate.{Validate};
 ghost use Rattle.macs_rxsc.specs.declared.association.Association.{Association};
@@ -66,6 +66,15 @@ fn slide_all(channels: &mut [Channel], window: u32)
     }
 }
 
+/// Lowers the ceiling of each association to its next packet number.
+fn lower_all(channels: &mut [Channel])
+    ensures { channels.new ≡ map channel_at_rest channels.old }
+{
+    for channel in channels.iter_mut() {
+        channel.lower();
+    }
+}
+
 /// The SCI that a SecTAG names (9.5, 9.9): the explicit one, the source address with port 00-01, or
 /// that of the only channel if it names none.
 fn sci_named(channels: &[Channel], frame: &[u8], name: ScName) -> Option<Sci>
@@ -106,6 +115,13 @@ impl Table {
         ensures { self.new.channels.items ≡ map (channel_under window) self.old.channels.items }
     {
         slide_all(self.channels.as_mut_slice(), window);
+    }
+
+    /// Lowers the ceiling of each association to its next packet number.
+    pub(crate) fn lower(&mut self)
+        ensures { self.new.channels.items ≡ map channel_at_rest self.old.channels.items }
+    {
+        lower_all(self.channels.as_mut_slice());
     }
 
     /// Adds a channel with an unused SCI. There are fewer than 32.

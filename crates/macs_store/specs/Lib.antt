@@ -11,3 +11,4 @@ pub mod Value
 pub mod Keeps
 pub mod Stepping
 pub mod Opening
+pub mod Resting

@@ -7,7 +7,9 @@ mod ceiling_table;
 mod fault;
 pub mod laws;
 mod meaning;
+mod next_numbers;
 mod opening;
+mod resting;
 mod snapshot;
 mod standing;
 mod stepping;
@@ -17,5 +19,6 @@ mod walk;
 
 pub use fault::CommitFault;
 pub use macs_journal::JournalStep;
+pub use next_numbers::NextNumbers;
 pub use opening::OpenRefused;
 pub use store::Store;

@@ -8,6 +8,10 @@ use Rattle.macs_config.specs.declared.command.Command.{Command}
 use Rattle.macs_endpoint.specs.Queue.{first_command, with_waiting}
 use Rattle.macs_endpoint.specs.State.{Advanced, Advances, Call, Commands, Delivery, Ran, Refilled, Refills, Reply}
 use Rattle.macs_endpoint.specs.State.{State, Submits, Submitted, state_after_fault, state_with_under_way}
+use Rattle.macs_endpoint.specs.State.{Rested, Rests}
+use Rattle.macs_endpoint.specs.Step.{RestStep}
+use Rattle.macs_endpoint.specs.declared.fault.RestFault.{RestFault}
+use Rattle.macs_endpoint.specs.declared.fault.RestFault.TheVariants as rest
 use Rattle.macs_endpoint.specs.Step.{AdvanceStep, CommandStep, Ends, RefillStep, SubmitStep, TakesUp}
 use Rattle.macs_endpoint.specs.Step.{state_without_first}
 use Rattle.macs_endpoint.specs.declared.fault.CommandFault.{CommandFault}
@@ -25,6 +29,7 @@ use Rattle.macs_headline.proofs.HandedIn.{first_on, none_some}
 use Rattle.macs_theorem.specs.Observer.{ExpectsCall, IsNew, Observer, after_command, after_result, begin, begun_in}
 use Rattle.macs_theorem.specs.Observer.{fail}
 use Rattle.macs_theorem.proofs.Matches.{BeginsFirst, Follows, Matches, after-command, after-fault, is-new, may-begin}
+use Rattle.macs_theorem.proofs.Matches.{follows-rested}
 use Rattle.macs_theorem.proofs.Matches.{none-begins, none-under-way, same-state, with-hand, without-first}
 
 -- ---- whose work may have begun
@@ -150,6 +155,15 @@ module _ (earlier : List Delivery) (old : State) (o : Observer) (m : Matches ear
   by-refill (Err refill.GenerationsSpent) new h = (o, refl, stay new h.1)
   by-refill (Err refill.Disk) new h = (fail o, refl, stop new h.1)
   by-refill (Err refill.Stopped) new h = absurd h
+
+  pub by-rest : (result : Result (Unit {0}) RestFault) (new : State) → RestStep old result new
+      → Goes earlier o Rests (Rested result) new
+  by-rest (Ok done) new h =
+      (record o { rested = true }, (m.waiting ∙ h.0, refl), follows-rested earlier new o true (stay new h.1))
+  by-rest (Err rest.Busy) new h = (o, refl, stay new h.1)
+  by-rest (Err rest.GenerationsSpent) new h = (o, refl, stay new h.1)
+  by-rest (Err rest.Disk) new h = (fail o, refl, stop new h.1)
+  by-rest (Err rest.Stopped) new h = absurd h
 
   -- ---- steps
 

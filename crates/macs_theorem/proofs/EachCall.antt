@@ -4,6 +4,8 @@ use Rattle.std.specs.Prelude.{length}
 use Rattle.macs_endpoint.specs.State.{Advanced, AdvancedLong, Advances, Call, Commands, Delivery, Protected, Protects}
 use Rattle.macs_endpoint.specs.State.{Ran, Received, Receives, Refilled, Refills, RefusedLong, Reply, State, Submits}
 use Rattle.macs_endpoint.specs.State.{Submitted}
+use Rattle.macs_endpoint.specs.State.{Rested, Rests}
+use Rattle.macs_endpoint.specs.declared.fault.RestFault.TheVariants as rest
 use Rattle.macs_endpoint.specs.Step.{IsStopped, RunningStep, Step}
 use Rattle.macs_endpoint.specs.declared.fault.CommandFault.TheVariants as ran
 use Rattle.macs_endpoint.specs.declared.fault.ProtectFault.TheVariants as protect
@@ -14,7 +16,7 @@ use Rattle.macs_endpoint.specs.declared.progress.Step.TheVariants.{Idle}
 use Rattle.macs_headline.specs.History.{logs_of}
 use Rattle.macs_headline.specs.Moments.{Moment}
 use Rattle.macs_theorem.specs.Observer.{ExpectsReply, Observer}
-use Rattle.macs_theorem.proofs.Commands.{Goes, IsFirst, by-advance, by-command, by-refill, by-submit, stopped-begins}
+use Rattle.macs_theorem.proofs.Commands.{Goes, IsFirst, by-advance, by-command, by-refill, by-rest, by-submit, stopped-begins}
 use Rattle.macs_theorem.proofs.Frames.{by-protect, by-receive}
 use Rattle.macs_theorem.proofs.Matches.{Follows, Matches, same-state}
 
@@ -54,6 +56,7 @@ module _ (sectors : ℕ) (earlier : List Delivery) (old : State) (moment : Momen
       → IsStopped call reply → ⊥
   never_stopped (Commands c) (Ran (Err ran.Stopped)) new h stopped = h
   never_stopped Refills (Refilled (Err refill.Stopped)) new h stopped = h
+  never_stopped Rests (Rested (Err rest.Stopped)) new h stopped = h
   never_stopped (Submits c) (Submitted (Err submit.Stopped)) new h stopped = h
   never_stopped Advances (Advanced (Err advance.Stopped)) new h stopped = h
   never_stopped (Protects plain) (Protected (Err protect.Stopped) out) new h stopped = h
@@ -66,6 +69,8 @@ module _ (sectors : ℕ) (earlier : List Delivery) (old : State) (moment : Momen
       by-command earlier old o m running (front running) c result new h
   by_running Refills (Refilled result) new allowed step running h =
       by-refill earlier old o m running (front running) result new h
+  by_running Rests (Rested result) new allowed step running h =
+      by-rest earlier old o m running (front running) result new h
   by_running (Submits c) (Submitted result) new allowed step running h =
       by-submit earlier old o m running (front running) c result new h
   by_running Advances (Advanced (Ok Idle)) new allowed step running h =

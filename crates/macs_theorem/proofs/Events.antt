@@ -20,9 +20,12 @@ use Rattle.macs_endpoint.specs.Restart.{Fits, state_during}
 use Rattle.macs_endpoint.specs.State.{Advanced, AdvancedLong, Advances, Call, Commands, Delivery, Logs, Protected}
 use Rattle.macs_endpoint.specs.State.{Protects, Ran, Received, Receives, Refilled, Refills, RefusedLong, Reply, State}
 use Rattle.macs_endpoint.specs.State.{Submits, Submitted, Use}
+use Rattle.macs_endpoint.specs.State.{Rested, Rests}
 use Rattle.macs_endpoint.specs.Limits.{IsStill}
 use Rattle.macs_endpoint.specs.Step.{Exchange, IsStopped, RunningStep, Step}
-use Rattle.macs_endpoint.specs.Value.{EndpointValue, IsSoundEndpoint, device_in, disk_in, state_of}
+use Rattle.macs_endpoint.specs.AtRest.{IsLevel}
+use Rattle.macs_endpoint.specs.Value.{EndpointValue, IsSoundEndpoint, device_in, disk_in, is_stopped, state_of}
+use Rattle.macs_endpoint.proofs.Rested.{level-after, level-opens}
 use Rattle.macs_endpoint.specs.declared.fault.CommandFault.TheVariants as command
 use Rattle.macs_endpoint.specs.declared.fault.StepFault.TheVariants as advance
 use Rattle.macs_endpoint.specs.declared.progress.Step.TheVariants.{Done, Idle, Reserved, Worked}
@@ -48,13 +51,16 @@ use Rattle.macs_theorem.specs.Events.{Answer, Answers, Calls, Closes, Ends, Ends
 use Rattle.macs_theorem.specs.Events.{Happen, Happens, Holds, HoldsDisk, HoldsEndpoint, IsAnswered, Opens, Shows}
 use Rattle.macs_theorem.specs.Events.{disk_held}
 use Rattle.macs_theorem.specs.Shown.{Shown, shown_by}
-use Rattle.macs_theorem.specs.Observer.{Expects, ExpectsAll, ExpectsReply, IsKnown, Observer, begin, new_observer}
+use Rattle.macs_theorem.specs.Observer.{Expects, ExpectsAll, ExpectsFormat, ExpectsReply, IsFound, IsKnown, Observer}
+use Rattle.macs_theorem.specs.Observer.{begin, new_observer, unrested}
 use Rattle.macs_theorem.specs.Older.{OlderIsExpected, observer_after}
 use Rattle.macs_theorem.specs.Page.{AllIsExpected}
 use Rattle.macs_theorem.proofs.EachCall.{IsAllowed, calls-are-expected}
-use Rattle.macs_theorem.proofs.Matches.{AreSpent, Follows, Matches, MatchesPast, is_spent_in}
+use Rattle.macs_theorem.proofs.Matches.{AreSpent, Follows, Matches, MatchesPast, follows-rested, is_spent_in}
+use Rattle.macs_theorem.proofs.Matches.{past-unrested}
 use Rattle.macs_theorem.proofs.Openings.{cuts-may-begin, formats-are-expected, found-is-expected, refused-is-expected}
-use Rattle.macs_theorem.proofs.Openings.{shown-is-known, taking-none, tried-is-expected}
+use Rattle.macs_theorem.proofs.Openings.{IsAtNext, IsPastAtNext, shown-is-known, taking-none, tried-is-expected}
+use Rattle.macs_theorem.proofs.Rests.{at-next, rested-runs, rests-alone}
 
 module _ {D : Type 0} (disk_of : D → Disk) (sound : (it : D) → IsHonest (disk_of it) → IsSound (now (disk_of it))) where
   -- the disk has a history, of which an observer knows this
@@ -65,6 +71,7 @@ module _ {D : Type 0} (disk_of : D → Disk) (sound : (it : D) → IsHonest (dis
     history : IsHistory sectors lives past
     covered : IsCovered sectors past (disk_of disk)
     matches : MatchesPast past o
+    next : o.rested ≡ true → (image : Image) → MayLeave (disk_of disk) image → IsPastAtNext sectors past image
 
   -- an endpoint is at a moment of one
   record IsRunning (e : EndpointValue D) (o : Observer) : Type 0 where
@@ -80,6 +87,7 @@ module _ {D : Type 0} (disk_of : D → Disk) (sound : (it : D) → IsHonest (dis
     logs : Logs
     life : IsLifeSoFar sectors past this_edition (now (disk_of disk)).seen (map exchange_of turns) (state_of e logs)
     follows : Follows (logs_of past).given (state_of e logs) o
+    level : o.rested ≡ true → IsLevel e × (is_stopped e ≡ false)
 
   abbrev IsHeld : Holds D → Observer → Type 0
   IsHeld (HoldsDisk disk) o = IsLeft disk o
@@ -89,7 +97,31 @@ module _ {D : Type 0} (disk_of : D → Disk) (sound : (it : D) → IsHonest (dis
   abbrev GoesOn : Observer → Event Shown → Holds D → Type 0
   GoesOn o event new = (later : Observer) × Expects o event later × IsHeld new later
 
+  -- where the last call was no rest
+  awake : (o : Observer) → o.rested ≡ false → o.rested ≡ true → ⊥
+  awake o is rested = let no : true ≡ false = sym rested ∙ is in cc
+
   -- ---- a disk
+
+  formats_awake : (o : Observer) (identity : Identity) (result : Result (Unit {0}) JournalFault) (later : Observer)
+      → ExpectsFormat o identity result later → o.rested ≡ false → later.rested ≡ false
+  formats_awake o identity (Ok done) later is quiet = ap (λ (o : Observer). o.rested) is.1 ∙ quiet
+  formats_awake o identity (Err fault) later is quiet = ap (λ (o : Observer). o.rested) is ∙ quiet
+
+  found_by : (o : Observer) (formatted : Option Identity) (later : Observer) → IsFound o formatted later
+      → later.rested ≡ false
+  found_by o (Some identity) later is = elim is [
+    | inl resumed ↦ ap (λ (o : Observer). o.rested) resumed.3
+    | inr after ↦ ap (λ (o : Observer). o.rested) after.3.3
+  ]
+  found_by o None later is = ap (λ (o : Observer). o.rested) is.2
+
+  found_awake : (o later : Observer) → IsFound o o.formatted later → later.rested ≡ false
+  found_awake o later is = found_by o o.formatted later is
+
+  after_awake : (past : Past) → (observer_after past).rested ≡ false
+  after_awake (Blank identities) = refl
+  after_awake (Formatted s) = refl
 
   -- the medium is passed on
   passed : (old new : D) (o : Observer) → IsLeft old o → IsPassedOn (disk_of old) (disk_of old).clock (disk_of new)
@@ -105,6 +137,7 @@ module _ {D : Type 0} (disk_of : D → Disk) (sound : (it : D) → IsHonest (dis
       images = λ image left. h.covered.images image (left-now (disk_of old) (disk_of new) is image left);
     };
     matches = h.matches;
+    next = λ rested image left. h.next rested image (left-now (disk_of old) (disk_of new) is image left);
   }
 
   by_format : (old : D) (o : Observer) (identity : Identity) (result : Result (Unit {0}) JournalFault) (new : D)
@@ -113,7 +146,8 @@ module _ {D : Type 0} (disk_of : D → Disk) (sound : (it : D) → IsHonest (dis
   by_format old o identity result new h is =
       let to = format-answered disk_of sound h.sectors old new identity h.past result h.covered is in
       let mid = to.lead.0 in
-      let right = formats-are-expected h.past identity result mid o to.lead.1 h.matches in (
+      let right =
+      formats-are-expected h.past identity result mid (unrested o) to.lead.1 (past-unrested h.past o h.matches) in (
         right.0,
         right.1,
         record {
@@ -125,6 +159,7 @@ module _ {D : Type 0} (disk_of : D → Disk) (sound : (it : D) → IsHonest (dis
               h.history to.lead.1;
           covered = subst (λ (p : Past). IsCovered h.sectors p (disk_of new)) to.lead.2 to.covered;
           matches = right.2;
+          next = λ rested. absurd (awake right.0 (formats_awake (unrested o) identity result right.0 right.1 refl) rested);
         },
       )
 
@@ -135,7 +170,7 @@ module _ {D : Type 0} (disk_of : D → Disk) (sound : (it : D) → IsHonest (dis
   by_format_cut old ran new o identity result h is passed =
       let to = format-cut disk_of sound h.sectors old ran identity result is h.past new h.covered passed in
       let mid = to.lead.0 in (
-        record o { tried = identity ∷ o.tried },
+        record (unrested o) { tried = identity ∷ o.tried },
         refl,
         record {
           sectors = h.sectors;
@@ -143,7 +178,8 @@ module _ {D : Type 0} (disk_of : D → Disk) (sound : (it : D) → IsHonest (dis
           past = mid;
           history = history-on h.sectors h.lives h.past (Formats this_edition identity false) mid h.history to.lead.1;
           covered = subst (λ (p : Past). IsCovered h.sectors p (disk_of new)) to.lead.2 to.covered;
-          matches = tried-is-expected h.past identity mid o to.lead.1 h.matches;
+          matches = tried-is-expected h.past identity mid (unrested o) to.lead.1 (past-unrested h.past o h.matches);
+          next = λ rested. absurd (awake (unrested o) refl rested);
         },
       )
 
@@ -155,7 +191,7 @@ module _ {D : Type 0} (disk_of : D → Disk) (sound : (it : D) → IsHonest (dis
       let mid = to.lead.0 in
       let seen = (now (disk_of old)).seen in
       let right = refused-is-expected h.sectors h.past seen fault mid o to.lead.1 h.matches in (
-        o,
+        unrested o,
         right.0,
         record {
           sectors = h.sectors;
@@ -164,19 +200,21 @@ module _ {D : Type 0} (disk_of : D → Disk) (sound : (it : D) → IsHonest (dis
           history = history-on h.sectors h.lives h.past (Refuses this_edition seen fault) mid h.history to.lead.1;
           covered = subst (λ (p : Past). IsCovered h.sectors p (disk_of new)) to.lead.2 to.covered;
           matches = right.1;
+          next = λ rested. absurd (awake (unrested o) refl rested);
         },
       )
 
   -- an opening that is cut short leads nowhere
   by_opening_cut : (old : D) (o : Observer) (new : D) (h : IsLeft old o) → LeadTo h.sectors h.past [] (disk_of new)
-      → IsLeft new o
+      → IsLeft new (unrested o)
   by_opening_cut old o new h to = record {
     sectors = h.sectors;
     lives = h.lives;
     past = h.past;
     history = h.history;
     covered = subst (λ (p : Past). IsCovered h.sectors p (disk_of new)) to.lead to.covered;
-    matches = h.matches;
+    matches = past-unrested h.past o h.matches;
+    next = λ rested. absurd (awake (unrested o) refl rested);
   }
 
   by_opening : (old : D) (o : Observer) (new : EndpointValue D) → IsLeft old o → IsOpening disk_of old (Ok new)
@@ -185,8 +223,9 @@ module _ {D : Type 0} (disk_of : D → Disk) (sound : (it : D) → IsHonest (dis
       let lived : LivesFrom disk_of old new [] new = (is, refl) in
       let living = alive disk_of sound h.sectors h.past old new [] new h.covered lived in
       let found = living.life.found in
-      let finds = found-is-expected h.sectors (now (disk_of old)).seen found living.life.is_found h.past o
-      living.life.fits h.matches in
+      let seen = (now (disk_of old)).seen in
+      let finds = found-is-expected h.sectors seen found living.life.is_found h.past o
+      living.life.fits h.matches (λ rested. h.next rested seen (sound old h.covered.honest).fit) in
       let follows : Follows (logs_of h.past).given (state_of new living.logs) finds.0 =
       subst (λ (s : State). Follows (logs_of h.past).given s finds.0) (sym living.life.steps) finds.2 in (
         finds.0,
@@ -204,6 +243,7 @@ module _ {D : Type 0} (disk_of : D → Disk) (sound : (it : D) → IsHonest (dis
           logs = living.logs;
           life = living.life;
           follows = follows;
+          level = λ rested. absurd (awake finds.0 (found_awake o finds.0 finds.1) rested);
         },
       )
 
@@ -261,7 +301,7 @@ module _ {D : Type 0} (disk_of : D → Disk) (sound : (it : D) → IsHonest (dis
         life = h.life;
       } in
       let expected = calls-are-expected h.sectors (logs_of h.past).given (state_of old h.logs) moment refl
-      kept.identity.sci.size o h.follows
+      kept.identity.sci.size (unrested o) (follows-rested (logs_of h.past).given (state_of old h.logs) o false h.follows)
       call reply (state_of new step.0)
       (allowed old call reply new h.logs step.0 is.behaves.still is.behaves.advances step.1) step.1 in
       let turn : Transition D = record { call = call; reply = reply; after = new } in (
@@ -283,6 +323,12 @@ module _ {D : Type 0} (disk_of : D → Disk) (sound : (it : D) → IsHonest (dis
               (life-on h.sectors h.past this_edition seen (map exchange_of h.turns) (state_of old h.logs)
               (exchange_of turn) (state_of new step.0) h.life is.behaves.in_range step.1);
           follows = expected.2;
+          level = λ rested.
+              let only = rests-alone o.stopped (unrested o) call reply expected.0 expected.1 refl rested in
+              let ok : IsCall disk_of old Rests (Rested (Ok tt)) new =
+              subst (λ (c : Call). IsCall disk_of old c (Rested (Ok tt)) new) only.0
+              (subst (λ (r : Reply). IsCall disk_of old call r new) only.1 is) in
+              (level-after disk_of old new ok, rested-runs disk_of old new ok);
         },
       )
 
@@ -309,6 +355,11 @@ module _ {D : Type 0} (disk_of : D → Disk) (sound : (it : D) → IsHonest (dis
               (living.backed.fits h.logs image left);
         };
         matches = rebased (logs_of h.past).given s o h.follows.matches;
+        next = λ rested image left.
+            let level = h.level rested in
+            subst (λ (n : ℕ). IsAtNext n s image) living.size
+            (at-next e h.logs (disk_in disk_of e).sectors image
+            (level-opens disk_of e h.logs image level.0 level.1 living.backed left));
       }
 
   -- no answer is of another call
@@ -327,12 +378,18 @@ module _ {D : Type 0} (disk_of : D → Disk) (sound : (it : D) → IsHonest (dis
   -- a call is cut short
   module _ (old : EndpointValue D) (o : Observer) (ran : EndpointValue D) (new : D) (h : IsRunning old o)
       (kept : IsSoundEndpoint old) where
+    abbrev other : Observer
+    other = unrested o
+
+    follows_on : Follows (logs_of h.past).given (state_of old h.logs) other
+    follows_on = follows-rested (logs_of h.past).given (state_of old h.logs) o false h.follows
+
     -- one that makes calls of the disk, or might
-    left : (call : Call) (reply : Reply) (later : Observer)
+    left : (call : Call) (reply : Reply) (later : Observer) → later.rested ≡ false
         → Matches (logs_of h.past).given (state_during (state_of old h.logs) call) later
         → IsCall disk_of old call reply ran
         → IsPassedOn (disk_in disk_of ran) (disk_in disk_of old).clock (disk_of new) → IsLeft new later
-    left call reply later matches is passes =
+    left call reply later quiet matches is passes =
         let seen = (now (disk_of h.disk)).seen in
         let living = alive disk_of sound h.sectors h.past h.disk h.first h.turns old h.covered h.lived in
         let last = state_of old h.logs in
@@ -350,12 +407,13 @@ module _ {D : Type 0} (disk_of : D → Disk) (sound : (it : D) → IsHonest (dis
               (λ image left. subst (λ (n : ℕ). Fits this_edition n image s) living.size
               (cut-call disk_of old ran h.logs reply kept living.honest living.backed call is image left));
           matches = rebased (logs_of h.past).given s later matches;
+          next = λ rested. absurd (awake later quiet rested);
         }
 
     by_work : (call : Call) (reply : Reply) → IsCall disk_of old call reply ran
-        → IsPassedOn (disk_in disk_of ran) (disk_in disk_of old).clock (disk_of new) → IsLeft new (begin call o)
-    by_work call reply is passes = left call reply (begin call o)
-        (cuts-may-begin (logs_of h.past).given (state_of old h.logs) o h.follows call) is passes
+        → IsPassedOn (disk_in disk_of ran) (disk_in disk_of old).clock (disk_of new) → IsLeft new (begin call other)
+    by_work call reply is passes = left call reply (begin call other) refl
+        (cuts-may-begin (logs_of h.past).given (state_of old h.logs) other follows_on call) is passes
 
     -- one that leaves the store, and with it the disk, as it was, which is as good as answered
     by_still : (call : Call) (reply : Reply) → IsCall disk_of old call reply ran → ran.store ≡ old.store
@@ -373,12 +431,12 @@ module _ {D : Type 0} (disk_of : D → Disk) (sound : (it : D) → IsHonest (dis
         → (later : Observer) × Expects o (Answers (Calls Advances (Advanced (Ok Idle)))) later × IsLeft new later
     by_idle is passes =
         let on = by_call old o Advances (Advanced (Ok Idle)) ran h kept is in
-        let known = idle o.stopped o on.0 on.1 in
-        let matches = h.follows.matches in (
+        let known = idle o.stopped other on.0 on.1 in
+        let matches = follows_on.matches in (
           on.0,
           on.1,
-          subst (λ (o : Observer). IsLeft new o) (sym known.1) (left Advances (Advanced (Ok Idle)) o
-              (taking-none (logs_of h.past).given (state_of old h.logs) o matches old.under_way old.waiting
+          subst (λ (o : Observer). IsLeft new o) (sym known.1) (left Advances (Advanced (Ok Idle)) other refl
+              (taking-none (logs_of h.past).given (state_of old h.logs) other matches old.under_way old.waiting
               (sym matches.waiting ∙ known.0)) is passes),
         )
 
@@ -386,11 +444,11 @@ module _ {D : Type 0} (disk_of : D → Disk) (sound : (it : D) → IsHonest (dis
         → IsPassedOn (disk_in disk_of ran) (disk_in disk_of old).clock (disk_of new)
         → GoesOn o (EndsIn (Calls call reply)) (HoldsDisk new)
     by_cut_call (Commands c) (Ran (Ok done)) is passes =
-        (begin (Commands c) o, refl, by_work (Commands c) (Ran (Ok done)) is passes)
+        (begin (Commands c) other, refl, by_work (Commands c) (Ran (Ok done)) is passes)
     by_cut_call (Commands c) (Ran (Err command.Disk)) is passes =
-        (begin (Commands c) o, refl, by_work (Commands c) (Ran (Err command.Disk)) is passes)
+        (begin (Commands c) other, refl, by_work (Commands c) (Ran (Err command.Disk)) is passes)
     by_cut_call (Commands c) (Ran (Err command.GenerationsSpent)) is passes =
-        (begin (Commands c) o, refl, by_work (Commands c) (Ran (Err command.GenerationsSpent)) is passes)
+        (begin (Commands c) other, refl, by_work (Commands c) (Ran (Err command.GenerationsSpent)) is passes)
     by_cut_call (Commands c) (Ran (Err (command.Refused refusal))) is passes =
         by_still (Commands c) (Ran (Err (command.Refused refusal))) is is.behaves.still passes
     by_cut_call (Commands c) (Ran (Err command.Busy)) is passes =
@@ -399,20 +457,22 @@ module _ {D : Type 0} (disk_of : D → Disk) (sound : (it : D) → IsHonest (dis
         by_still (Commands c) (Ran (Err command.Stopped)) is is.behaves.still passes
     by_cut_call (Commands c) RefusedLong is passes = absurd is.behaves.still
     by_cut_call Refills (Refilled result) is passes =
-        (o, refl, left Refills (Refilled result) o h.follows.matches is passes)
+        (other, refl, left Refills (Refilled result) other refl follows_on.matches is passes)
+    by_cut_call Rests (Rested result) is passes =
+        (other, refl, left Rests (Rested result) other refl follows_on.matches is passes)
     by_cut_call (Submits c) (Submitted result) is passes =
         by_still (Submits c) (Submitted result) is is.behaves.still passes
     by_cut_call Advances (Advanced (Ok Idle)) is passes = by_idle is passes
     by_cut_call Advances (Advanced (Ok Worked)) is passes =
-        (begin Advances o, refl, by_work Advances (Advanced (Ok Worked)) is passes)
+        (begin Advances other, refl, by_work Advances (Advanced (Ok Worked)) is passes)
     by_cut_call Advances (Advanced (Ok Reserved)) is passes =
-        (begin Advances o, refl, by_work Advances (Advanced (Ok Reserved)) is passes)
+        (begin Advances other, refl, by_work Advances (Advanced (Ok Reserved)) is passes)
     by_cut_call Advances (Advanced (Ok (Done ticket (Ok done)))) is passes =
-        (begin Advances o, refl, by_work Advances (Advanced (Ok (Done ticket (Ok done)))) is passes)
+        (begin Advances other, refl, by_work Advances (Advanced (Ok (Done ticket (Ok done)))) is passes)
     by_cut_call Advances (Advanced (Ok (Done ticket (Err fault)))) is passes =
         by_still Advances (Advanced (Ok (Done ticket (Err fault)))) is is.behaves.still passes
     by_cut_call Advances (Advanced (Err advance.Disk)) is passes =
-        (begin Advances o, refl, by_work Advances (Advanced (Err advance.Disk)) is passes)
+        (begin Advances other, refl, by_work Advances (Advanced (Err advance.Disk)) is passes)
     by_cut_call Advances (Advanced (Err advance.GenerationsSpent)) is passes =
         by_still Advances (Advanced (Err advance.GenerationsSpent)) is is.behaves.still passes
     by_cut_call Advances (Advanced (Err advance.Stopped)) is passes =
@@ -462,11 +522,11 @@ module _ {D : Type 0} (disk_of : D → Disk) (sound : (it : D) → IsHonest (dis
       by_format_cut old ran new o identity result h is passes
   by_end_in (HoldsDisk old) o (Opens (Ok done)) (HoldsEndpoint ran) new h is passes =
       let to = opening-cut disk_of sound h.sectors h.past old h.covered (Ok ran) new is passes in
-      (o, refl, by_opening_cut old o new h to)
+      (unrested o, refl, by_opening_cut old o new h to)
   by_end_in (HoldsDisk old) o (Opens (Err fault)) (HoldsDisk ran) new h is passes =
       let to = opening-cut disk_of sound h.sectors h.past old h.covered (Err (record { disk = ran; fault = fault })) new
       is passes in
-      (o, refl, by_opening_cut old o new h to)
+      (unrested o, refl, by_opening_cut old o new h to)
   by_end_in (HoldsEndpoint old) o (Calls call reply) (HoldsEndpoint ran) new h is passes =
       by_cut_call old o ran new h is.0 call reply is.1 passes
   by_end_in (HoldsEndpoint old) o (Shows shown) (HoldsEndpoint ran) new h is passes =
@@ -552,6 +612,7 @@ module _ {D : Type 0} (disk_of : D → Disk) (sound : (it : D) → IsHonest (dis
     history = history;
     covered = record { honest = honest; size = refl; images = images };
     matches = known past (sound-history (disk_of disk).sectors lives past history);
+    next = λ rested. absurd (awake (observer_after past) (after_awake past) rested);
   }
 
   pub all-is-expected : AllIsExpected disk_of

@@ -9,3 +9,4 @@ pub mod Nonces
 pub mod Deeds
 pub mod Runs
 pub mod Kept
+mod Rests

@@ -22,7 +22,7 @@ use Rattle.macs_headline.proofs.HandedIn.{none_some}
 use Rattle.macs_headline.proofs.Ledger.{some_one}
 use Rattle.macs_theorem.specs.Shown.{settings_of}
 use Rattle.macs_theorem.specs.Observer.{IsNew, Observer, after_command, begin, begun_in, fail, install_of, new_observer}
-use Rattle.macs_theorem.specs.Observer.{settings_after}
+use Rattle.macs_theorem.specs.Observer.{settings_after, unrested}
 use Rattle.macs_theorem.proofs.Settings.{settings-follow}
 
 -- a key is spent on its side
@@ -65,6 +65,35 @@ BeginsFirst s o = (c : Command) → o.begun ≡ Some c → s.stopped ≡ false �
 pub record Follows (earlier : List Delivery) (s : State) (o : Observer) : Type 0 where
   pub matches : Matches earlier s o
   pub begins : BeginsFirst s o
+
+-- whether the last call was a rest does not matter here
+pub rest-matters-not : (earlier : List Delivery) (s : State) (o : Observer) (rested : Bool) → Matches earlier s o
+    → Matches earlier s (record o { rested = rested })
+rest-matters-not earlier s o rested m = record {
+  formatted = m.formatted;
+  settings = m.settings;
+  installed = m.installed;
+  next = m.next;
+  numbers = m.numbers;
+  waiting = m.waiting;
+  tickets = m.tickets;
+  stopped = m.stopped;
+  sent = m.sent;
+  delivered = m.delivered;
+  before = m.before;
+  hand = m.hand;
+}
+
+pub follows-rested : (earlier : List Delivery) (s : State) (o : Observer) (rested : Bool) → Follows earlier s o
+    → Follows earlier s (record o { rested = rested })
+follows-rested earlier s o rested f = record {
+  matches = rest-matters-not earlier s o rested f.matches;
+  begins = f.begins;
+}
+
+pub past-unrested : (past : Past) (o : Observer) → MatchesPast past o → MatchesPast past (unrested o)
+past-unrested (Blank identities) o m = ap unrested m
+past-unrested (Formatted s) o m = rest-matters-not o.before s o false m
 
 -- where none may have begun
 pub none-begins : (s : State) (o : Observer) → o.begun ≡ None → BeginsFirst s o

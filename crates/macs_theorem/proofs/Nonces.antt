@@ -16,6 +16,8 @@ use Rattle.macs_rxsc.specs.declared.verdict.Kind.TheVariants.{Delayed, Ok as AsO
 use Rattle.macs_rxsc.specs.declared.verdict.Verdict.TheVariants.{Delivered, HeldBack}
 use Rattle.macs_endpoint.specs.State.{Advanced, Advances, Call, Commands, Protected, Protects, Ran, Received, Receives}
 use Rattle.macs_endpoint.specs.State.{Refilled, Refills, Reply, Submits, Submitted, Use}
+use Rattle.macs_endpoint.specs.State.{Rested, Rests}
+use Rattle.macs_endpoint.specs.declared.fault.RestFault.TheVariants as rest
 use Rattle.macs_endpoint.specs.Step.{Exchange, IsStopped}
 use Rattle.macs_endpoint.specs.declared.fault.CommandFault.TheVariants as ran
 use Rattle.macs_endpoint.specs.declared.fault.CommandFault.{CommandFault}
@@ -249,6 +251,10 @@ module _ (keys : List (List ℕ)) where
       leads o Refills (Refilled (Err refill.Disk)) new refl (quiet o is refl known)
   by_call o Refills (Refilled result) new installs known is =
       leads o Refills (Refilled result) new refl (quiet o is refl known)
+  by_call o Rests (Rested (Err rest.Disk)) new installs known is =
+      leads o Rests (Rested (Err rest.Disk)) new refl (quiet o is refl known)
+  by_call o Rests (Rested result) new installs known is =
+      leads o Rests (Rested result) new refl (quiet o is refl known)
   by_call o call reply new installs known is = absurd is
 
   -- a stopped endpoint writes no frame
@@ -261,6 +267,7 @@ module _ (keys : List (List ℕ)) where
   none_stopped (Receives frame) (Received answer out) is = refl
   none_stopped (Commands c) (Ran result) is = refl
   none_stopped Refills (Refilled result) is = refl
+  none_stopped Rests (Rested result) is = refl
   none_stopped (Submits c) (Submitted result) is = refl
   none_stopped Advances (Advanced result) is = refl
   none_stopped call reply is = absurd is
@@ -283,6 +290,8 @@ module _ (keys : List (List ℕ)) where
       (quiet o is refl (known_begun (Commands c) o installs known))
   by_cut o Refills (Refilled result) new installs known is =
       leads o Refills (Refilled result) new refl (quiet o is refl known)
+  by_cut o Rests (Rested result) new installs known is =
+      leads o Rests (Rested result) new refl (quiet o is refl known)
   by_cut o Advances (Advanced (Ok Worked)) new installs known is =
       leads o Advances (Advanced (Ok Worked)) new refl (quiet o is refl (known_begun Advances o installs known))
   by_cut o Advances (Advanced (Ok Reserved)) new installs known is =

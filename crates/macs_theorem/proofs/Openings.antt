@@ -10,11 +10,14 @@ use Rattle.macs_disk.specs.States.{Image}
 use Rattle.macs_rxsc.specs.Receive.{Numbers, first_numbers}
 use Rattle.macs_journal.specs.declared.fault.JournalFault.{JournalFault}
 use Rattle.macs_store.specs.Found.{StandingIs}
-use Rattle.macs_store.specs.Standing.{Standing, new_standing}
+use Rattle.macs_store.specs.Standing.{Ceilings, Standing, new_standing}
+use Rattle.macs_store.proofs.OneStanding.{one_standing}
+use Rattle.macs_endpoint.specs.Ceilings.{next_ceilings}
 use Rattle.macs_endpoint.specs.Restart.{Restart, Resumes, RxRises, TxRises, opened_state, state_during}
 use Rattle.macs_endpoint.specs.Restart.{state_taking_alone, state_taking_first}
 use Rattle.macs_endpoint.specs.State.{Advances, Call, Commands, Delivery, Protects, Receives, Refills, State, Submits}
 use Rattle.macs_endpoint.specs.State.{no_logs, state_with_under_way}
+use Rattle.macs_endpoint.specs.State.{Rests}
 use Rattle.macs_endpoint.specs.Step.{state_after_command}
 use Rattle.macs_endpoint.specs.declared.queue.Waiting.{Waiting}
 use Rattle.macs_headline.specs.History.{Blank, FitsPast, FormatLeads, Formatted, Leads, Past, Refuses, logs_of}
@@ -24,10 +27,10 @@ use Rattle.macs_headline.proofs.Histories.{fits-restart, found-new}
 use Rattle.macs_headline.proofs.Openings.{refused-for-disk-or-spent}
 use Rattle.macs_theorem.specs.Shown.{Shown, settings_of, shown_numbers}
 use Rattle.macs_theorem.specs.Observer.{ExpectsFormat, ExpectsOpening, IsFound, IsKnown, IsResumed, Observer}
-use Rattle.macs_theorem.specs.Observer.{after_command, begin, begun_in, new_observer}
+use Rattle.macs_theorem.specs.Observer.{SkipsNone, after_command, begin, begun_in, new_observer, unrested}
 use Rattle.macs_theorem.proofs.Commands.{IsFirst, begins-alone, begins-first}
 use Rattle.macs_theorem.proofs.Matches.{AreSpent, Follows, Matches, MatchesPast, after-command, is-new, may-begin}
-use Rattle.macs_theorem.proofs.Matches.{none-begins, none-spent, with-hand}
+use Rattle.macs_theorem.proofs.Matches.{none-begins, none-spent, past-unrested, with-hand}
 
 -- ---- what is found
 
@@ -40,18 +43,30 @@ resumed o found = record o {
   tickets = 0;
   begun = None;
   stopped = false;
+  rested = false;
   before = o.delivered;
 }
 
+-- what is found are these next numbers
+pub record IsAtNext (sectors : ℕ) (s : State) (image : Image) : Type 0 where
+  pub found : Standing
+  pub is_found : StandingIs this_edition sectors image (Ok found)
+  pub ceilings : found.ceilings ≡ next_ceilings s
+
+abbrev pub IsPastAtNext : ℕ → Past → Image → Type 0
+IsPastAtNext sectors (Blank identities) image = ⊥
+IsPastAtNext sectors (Formatted s) image = IsAtNext sectors s image
+
 -- it finds a state that this observer knows
 module _ (s : State) (found : Standing) (o : Observer) (m : Matches o.before s o)
-    (up : Resumes s (opened_state found s.logs)) where
+    (up : Resumes s (opened_state found s.logs)) (skips : o.rested ≡ true → SkipsNone o (resumed o found)) where
   as_known : IsResumed s.identity o (resumed o found)
   as_known = (
     λ an. subst (λ (next : ℕ → Option ℕ). TxRises s.identity.tx_block (next an) (found.ceilings.tx an)) (sym m.next)
         (up.next an),
     λ sci an. subst (λ (numbers : List ℕ → ℕ → Option Numbers). RxRises s.identity.rx_block (numbers sci an)
         (option_map first_numbers (found.ceilings.rx sci an))) (sym m.numbers) (up.numbers sci an),
+    skips,
     refl,
   )
 
@@ -74,6 +89,33 @@ module _ (s : State) (found : Standing) (o : Observer) (m : Matches o.before s o
     begins = none-begins (opened_state found s.logs) (resumed o found) refl;
   }
 
+not_rested : (o : Observer) (found : Standing) → o.rested ≡ false → o.rested ≡ true → SkipsNone o (resumed o found)
+not_rested o found is rested = absurd (let no : true ≡ false = sym rested ∙ is in cc)
+
+-- next numbers that are found as ceilings
+once_more : (n : Option Numbers) (c : Option ℕ) → c ≡ option_map (λ (n : Numbers). n.next) n
+    → option_map first_numbers c ≡ option_map (λ (n : Numbers). first_numbers n.next) n
+once_more None c is = ap (option_map first_numbers) is
+once_more (Some n) c is = ap (option_map first_numbers) is
+
+abbrev standing_ok : Standing → Result Standing JournalFault
+standing_ok s = Ok s
+
+ok_same : (a b : Standing) → standing_ok a ≡ standing_ok b → a ≡ b
+ok_same a b is = cc
+
+skips-at-next : (sectors : ℕ) (image : Image) (s : State) (found : Standing) (o : Observer) → Matches o.before s o
+    → StandingIs this_edition sectors image (Ok found) → IsAtNext sectors s image → SkipsNone o (resumed o found)
+skips-at-next sectors image s found o m is at =
+    let same : found ≡ at.found =
+    ok_same found at.found (one_standing this_edition sectors image (Ok found) (Ok at.found) is at.is_found) in
+    let ceilings : found.ceilings ≡ next_ceilings s = ap (λ (x : Standing). x.ceilings) same ∙ at.ceilings in (
+      ap (λ (x : Ceilings). x.tx) ceilings ∙ sym m.next,
+      λ sci an. once_more (s.numbers sci an) (found.ceilings.rx sci an) (ap (λ (x : Ceilings). x.rx sci an) ceilings)
+          ∙ ap (λ (f : List ℕ → ℕ → Option Numbers). option_map (λ (n : Numbers). first_numbers n.next) (f sci an))
+          (sym m.numbers),
+    )
+
 -- an opening is expected, and what is known after it is so
 abbrev Finds : Observer → (earlier : List Delivery) → State → Type 0
 Finds o earlier new = (later : Observer) × IsFound o o.formatted later × Follows earlier new later
@@ -85,10 +127,10 @@ finds_in s found o m later is after =
     (later, subst (λ (i : Option Identity). IsFound o i later) (sym m.formatted) is, after)
 
 restarted : (s : State) (found : Standing) (o : Observer) → Restart s (opened_state found s.logs) → Matches o.before s o
-    → Finds o s.logs.given (opened_state found s.logs)
-restarted s found o (inl up) m =
-    finds_in s found o m (resumed o found) (inl (as_known s found o m up)) (known_after s found o m up)
-restarted s found o (inr (c, mid, hand, makes, up)) m =
+    → (o.rested ≡ true → SkipsNone o (resumed o found)) → Finds o s.logs.given (opened_state found s.logs)
+restarted s found o (inl up) m skips =
+    finds_in s found o m (resumed o found) (inl (as_known s found o m up skips)) (known_after s found o m up skips)
+restarted s found o (inr (c, mid, hand, makes, up)) m skips =
     let config : Config = makes.0 in
     let on : Resumes (state_after_command s c config) (opened_state found s.logs) =
     subst (λ (x : State). Resumes x (opened_state found s.logs)) makes.2 up in
@@ -98,9 +140,10 @@ restarted s found o (inr (c, mid, hand, makes, up)) m =
       c,
       m.hand c hand,
       is-new o.before s o c config makes.1 m,
-      as_known (state_after_command s c config) found (after_command c o) after on,
+      as_known (state_after_command s c config) found (after_command c o) after on (not_rested (after_command c o) found refl),
     ))
-    (known_after (state_after_command s c config) found (after_command c o) after on)
+    (known_after (state_after_command s c config) found (after_command c o) after on
+    (not_rested (after_command c o) found refl))
 
 module _ (sectors : ℕ) (image : Image) (found : Standing) (is : StandingIs this_edition sectors image (Ok found)) where
   -- on a disk that may not be formatted
@@ -132,11 +175,13 @@ module _ (sectors : ℕ) (image : Image) (found : Standing) (is : StandingIs thi
       )
 
   pub found-is-expected : (past : Past) (o : Observer) → FitsPast this_edition sectors past image → MatchesPast past o
+      → (o.rested ≡ true → IsPastAtNext sectors past image)
       → Finds o (logs_of past).given (opened_state found (logs_of past))
-  found-is-expected (Blank identities) o fits m =
+  found-is-expected (Blank identities) o fits m next =
       subst (λ (o : Observer). Finds o [] (opened_state found no_logs)) (sym m) (first_found identities fits)
-  found-is-expected (Formatted s) o fits m =
+  found-is-expected (Formatted s) o fits m next =
       restarted s found o (fits-restart this_edition sectors image s found fits is) m
+      (λ rested. skips-at-next sectors image s found o m is (next rested))
 
 -- ---- what an endpoint shows
 
@@ -164,10 +209,10 @@ shown-is-known earlier s o m = (
 
 pub refused-is-expected : (sectors : ℕ) (past : Past) (image : Image) (fault : JournalFault) (new : Past) (o : Observer)
     → Leads sectors past (Refuses this_edition image fault) new → MatchesPast past o
-    → ExpectsOpening o (Err fault) o × MatchesPast new o
+    → ExpectsOpening o (Err fault) (unrested o) × MatchesPast new (unrested o)
 refused-is-expected sectors (Blank identities) image fault new o leads m = (
   (inl (ap (λ (o : Observer). o.formatted) m), refl),
-  subst (λ (p : Past). MatchesPast p o) (sym leads.2) m,
+  subst (λ (p : Past). MatchesPast p (unrested o)) (sym leads.2) (past-unrested (Blank identities) o m),
 )
 refused-is-expected sectors (Formatted s) image fault new o leads m = (
   (
@@ -177,7 +222,7 @@ refused-is-expected sectors (Formatted s) image fault new o leads m = (
     ]),
     refl,
   ),
-  subst (λ (p : Past). MatchesPast p o) (sym leads.2) m,
+  subst (λ (p : Past). MatchesPast p (unrested o)) (sym leads.2) (past-unrested (Formatted s) o m),
 )
 
 -- ---- formats
@@ -285,6 +330,7 @@ module _ (earlier : List Delivery) (s : State) (o : Observer) (follows : Follows
   pub cuts-may-begin : (call : Call) → Matches earlier (state_during s call) (begin call o)
   cuts-may-begin (Commands c) = taking_alone s.waiting c refl
   cuts-may-begin Refills = may-begin earlier s o Refills m
+  cuts-may-begin Rests = may-begin earlier s o Rests m
   cuts-may-begin (Submits c) = may-begin earlier s o (Submits c) m
   cuts-may-begin Advances = taking_first s.under_way s.waiting refl
   cuts-may-begin (Protects plain) = may-begin earlier s o (Protects plain) m

@@ -16,7 +16,8 @@ use Rattle.macs_config.specs.declared.command.Command.TheVariants.{SetSciMode, S
 use Rattle.macs_config.specs.declared.command.SciMode.TheVariants.{Explicit}
 use Rattle.macs_config.specs.declared.command.Validate.TheVariants.{Check, Strict}
 use Rattle.macs_txsc.specs.Transmit.{name_in}
-use Rattle.macs_rxsc.specs.Receive.{Numbers, delivery_kind, numbers_after_delivery, numbers_after_hold, put_numbers}
+use Rattle.macs_rxsc.specs.Receive.{Numbers, delivery_kind, first_numbers, numbers_after_delivery, numbers_after_hold}
+use Rattle.macs_rxsc.specs.Receive.{put_numbers}
 use Rattle.macs_rxsc.specs.declared.verdict.Kind.{Kind}
 use Rattle.macs_rxsc.specs.declared.verdict.Kind.TheVariants.{Delayed, Invalid, Ok as AsOk, UnknownSci, Untagged}
 use Rattle.macs_rxsc.specs.declared.verdict.Kind.TheVariants.{UnusedSa}
@@ -26,11 +27,12 @@ use Rattle.macs_journal.specs.declared.fault.JournalFault.TheVariants as opening
 use Rattle.macs_endpoint.specs.Queue.{with_waiting}
 use Rattle.macs_endpoint.specs.Restart.{RxRises, TxRises}
 use Rattle.macs_endpoint.specs.State.{Advanced, Advances, Call, Commands, Delivery, Protected, Protects, Ran, Received}
-use Rattle.macs_endpoint.specs.State.{Receives, Refilled, Refills, Reply, Submits, Submitted, Use}
+use Rattle.macs_endpoint.specs.State.{Receives, Refilled, Refills, Reply, Rested, Rests, Submits, Submitted, Use}
 use Rattle.macs_endpoint.specs.Step.{IsStopped, next_after, numbers_after}
 use Rattle.macs_endpoint.specs.declared.fault.CommandFault.{CommandFault}
 use Rattle.macs_endpoint.specs.declared.fault.CommandFault.TheVariants as ran
 use Rattle.macs_endpoint.specs.declared.fault.RefillFault.TheVariants as refill
+use Rattle.macs_endpoint.specs.declared.fault.RestFault.TheVariants as rest
 use Rattle.macs_endpoint.specs.declared.fault.StepFault.TheVariants as step
 use Rattle.macs_endpoint.specs.declared.progress.Step.TheVariants.{Done, Idle, Reserved, Worked}
 use Rattle.macs_endpoint.specs.declared.queue.Waiting.{Waiting}
@@ -83,8 +85,8 @@ install_of command = []
 -- settings, and which keys were installed; the next packet number of each transmit association, and the packet numbers
 -- of each receive association; the pending submitted commands, and how many tickets were given since the disk was
 -- opened; the command whose work on the disk may have begun; whether a call returned Disk since the disk was opened;
--- key and packet number of each frame that was sent; SCI, key and packet number of each that was delivered as verified,
--- and of those that were before the disk was opened.
+-- whether the last call was a rest that returned Ok; key and packet number of each frame that was sent; SCI, key and
+-- packet number of each that was delivered as verified, and of those that were before the disk was opened.
 pub record Observer : Type 0 where
   pub formatted : Option Identity
   pub tried : List Identity
@@ -96,6 +98,7 @@ pub record Observer : Type 0 where
   pub tickets : ℕ
   pub begun : Option Command
   pub stopped : Bool
+  pub rested : Bool
   pub sent : List Use
   pub delivered : List Delivery
   pub before : List Delivery
@@ -113,6 +116,7 @@ new_observer = record {
   tickets = 0;
   begun = None;
   stopped = false;
+  rested = false;
   sent = [];
   delivered = [];
   before = [];
@@ -238,6 +242,7 @@ after_command command o = record o {
   next = next_after command o.next;
   numbers = numbers_after command o.numbers;
   begun = None;
+  rested = false;
 }
 
 -- the command whose work on the disk a call may begin: the call's own command, if none is pending, or the first pending
@@ -250,6 +255,10 @@ begun_in stopped call waiting = None
 -- its work may have begun, unless that of another one had
 abbrev pub begin : Call → Observer → Observer
 begin call o = record o { begun = option_or o.begun (begun_in o.stopped call o.waiting) }
+
+-- another call is made
+abbrev pub unrested : Observer → Observer
+unrested o = record o { rested = false }
 
 -- a call returns Disk
 abbrev pub fail : Observer → Observer
@@ -297,6 +306,9 @@ ExpectsCall o Advances (Advanced (Err step.Disk)) new = new ≡ fail (begin Adva
 ExpectsCall o Advances (Advanced (Err fault)) new = new ≡ o
 ExpectsCall o Refills (Refilled (Err refill.Disk)) new = new ≡ fail o
 ExpectsCall o Refills (Refilled result) new = new ≡ o
+ExpectsCall o Rests (Rested (Ok done)) new = (o.waiting ≡ []) × (new ≡ record o { rested = true })
+ExpectsCall o Rests (Rested (Err rest.Disk)) new = new ≡ fail o
+ExpectsCall o Rests (Rested result) new = new ≡ o
 ExpectsCall o call reply new = ⊥
 
 -- once a call returned Disk, each returns Stopped, until the disk is opened again; before that, none does
@@ -311,6 +323,7 @@ ExpectsCut o (Commands command) (Ran (Ok done)) new = new ≡ begin (Commands co
 ExpectsCut o (Commands command) (Ran (Err ran.Disk)) new = new ≡ begin (Commands command) o
 ExpectsCut o (Commands command) (Ran (Err ran.GenerationsSpent)) new = new ≡ begin (Commands command) o
 ExpectsCut o Refills (Refilled result) new = new ≡ o
+ExpectsCut o Rests (Rested result) new = new ≡ o
 ExpectsCut o Advances (Advanced (Ok Worked)) new = new ≡ begin Advances o
 ExpectsCut o Advances (Advanced (Ok Reserved)) new = new ≡ begin Advances o
 ExpectsCut o Advances (Advanced (Ok (Done ticket (Ok done)))) new = new ≡ begin Advances o
@@ -324,13 +337,20 @@ abbrev pub ExpectsFormat : Observer → Identity → Result (Unit {0}) JournalFa
 ExpectsFormat o identity (Ok done) new = (o.formatted ≡ None) × (new ≡ record o { formatted = Some identity })
 ExpectsFormat o identity (Err fault) new = new ≡ record o { tried = identity ∷ o.tried }
 
+-- no packet number is skipped: the next ones are the same, and those to receive continue there
+abbrev pub SkipsNone : Observer → Observer → Type 0
+SkipsNone o new = (new.next ≡ o.next)
+    × ((sci : List ℕ) (an : ℕ)
+    → new.numbers sci an ≡ option_map (λ (n : Numbers). first_numbers n.next) (o.numbers sci an))
+
 -- The settings are found again. Packet numbers do not fall, and few are skipped: for a transmit association at most a
--- block and a half, for a receive association at most up to a block beyond the greatest one that verified. No command
--- is pending.
+-- block and a half, for a receive association at most up to a block beyond the greatest one that verified; after a rest
+-- none. No command is pending.
 abbrev pub IsResumed : Identity → Observer → Observer → Type 0
 IsResumed identity o new =
     ((an : ℕ) → TxRises identity.tx_block (o.next an) (new.next an))
     × ((sci : List ℕ) (an : ℕ) → RxRises identity.rx_block (o.numbers sci an) (new.numbers sci an))
+    × (o.rested ≡ true → SkipsNone o new)
     × (new ≡ record o {
       next = new.next;
       numbers = new.numbers;
@@ -338,6 +358,7 @@ IsResumed identity o new =
       tickets = 0;
       begun = None;
       stopped = false;
+      rested = false;
       before = o.delivered;
     })
 
@@ -348,13 +369,13 @@ IsFound o (Some identity) new = IsResumed identity o new
     ⊎ ((command : Command) × (o.begun ≡ Some command) × IsNew command o
     × IsResumed identity (after_command command o) new)
 IsFound o None new =
-    (identity : Identity) × Contains o.tried identity × (new ≡ record o { formatted = Some identity })
+    (identity : Identity) × Contains o.tried identity × (new ≡ record o { formatted = Some identity; rested = false })
 
 -- Once the disk is certainly formatted, it is opened, or refused with Disk or with GenerationsSpent.
 abbrev pub ExpectsOpening : Observer → Result (Unit {0}) JournalFault → Observer → Type 0
 ExpectsOpening o (Ok done) new = IsFound o o.formatted new
 ExpectsOpening o (Err fault) new =
-    ((o.formatted ≡ None) ⊎ ((fault ≡ opening.Disk) ⊎ (fault ≡ opening.GenerationsSpent))) × (new ≡ o)
+    ((o.formatted ≡ None) ⊎ ((fault ≡ opening.Disk) ⊎ (fault ≡ opening.GenerationsSpent))) × (new ≡ unrested o)
 
 -- the readers show what the observer knows
 abbrev pub IsKnown : Observer → Shown → Type 0
@@ -366,12 +387,13 @@ IsKnown o shown = (o.formatted ≡ Some shown.identity) × (shown.settings ≡ o
 -- An observer expects this event, and knows this afterwards. A frame counts as sent, or as delivered, even if the
 -- program ended before it saw the answer.
 abbrev pub Expects : Observer → Event Shown → Observer → Type 0
-Expects o (Answers (Formats identity result)) new = ExpectsFormat o identity result new
+Expects o (Answers (Formats identity result)) new = ExpectsFormat (unrested o) identity result new
 Expects o (Answers (Opens result)) new = ExpectsOpening o result new
-Expects o (Answers (Calls call reply)) new = ExpectsReply o.stopped o call reply new
+Expects o (Answers (Calls call reply)) new = ExpectsReply o.stopped (unrested o) call reply new
 Expects o (Answers (Shows shown)) new = IsKnown o shown × (new ≡ o)
-Expects o (EndsIn (Formats identity result)) new = new ≡ record o { tried = identity ∷ o.tried }
-Expects o (EndsIn (Calls call reply)) new = ExpectsCut o call reply new
+Expects o (EndsIn (Formats identity result)) new = new ≡ record (unrested o) { tried = identity ∷ o.tried }
+Expects o (EndsIn (Opens result)) new = new ≡ unrested o
+Expects o (EndsIn (Calls call reply)) new = ExpectsCut (unrested o) call reply new
 Expects o event new = new ≡ o
 
 -- each of these events, one after another

@@ -24,6 +24,7 @@ observer_after (Formatted s) = record {
   tickets = s.tickets;
   begun = s.under_way;
   stopped = s.stopped;
+  rested = false;
   sent = s.logs.used;
   delivered = s.logs.given;
   before = s.logs.given;

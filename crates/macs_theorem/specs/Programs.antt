@@ -2,7 +2,7 @@
 use Rattle.std.specs.Prelude.{◌≡◌, ◌⊎◌, ◌++◌, List, [], ◌∷◌, Option, Some, None}
 use Rattle.macs_disk.specs.Disk.{Disk}
 use Rattle.macs_endpoint.specs.State.{Advanced, Advances, Commands, Protected, Protects, Ran, Received, Receives}
-use Rattle.macs_endpoint.specs.State.{Refilled, Refills, Submits, Submitted}
+use Rattle.macs_endpoint.specs.State.{Refilled, Refills, Rested, Rests, Submits, Submitted}
 use Rattle.macs_theorem.specs.Events.{Answer, Answers, Calls, Closes, Ends, EndsIn, Event, Formats, Happen, Happens}
 use Rattle.macs_theorem.specs.Events.{Holds, HoldsDisk, HoldsEndpoint, IsAnswered, Opens, Shows}
 use Rattle.macs_theorem.specs.Observer.{ExpectsAll, new_observer}
@@ -28,6 +28,7 @@ answer_of (heard.Formatted identity result) = Formats identity result
 answer_of (heard.Opened result) = Opens result
 answer_of (heard.Ran command result) = Calls (Commands command) (Ran result)
 answer_of (heard.Refilled result) = Calls Refills (Refilled result)
+answer_of (heard.Rested result) = Calls Rests (Rested result)
 answer_of (heard.Submitted command result) = Calls (Submits command) (Submitted result)
 answer_of (heard.Stepped result) = Calls Advances (Advanced result)
 answer_of (heard.Protected plain result out) = Calls (Protects plain.items) (Protected result out.items)
@@ -40,6 +41,7 @@ IsAnswerTo (request.Format identity) (heard.Formatted given result) = given ≡ 
 IsAnswerTo request.Open (heard.Opened result) = Unit {0}
 IsAnswerTo (request.Command command) (heard.Ran given result) = given ≡ command
 IsAnswerTo request.Refill (heard.Refilled result) = Unit {0}
+IsAnswerTo request.Rest (heard.Rested result) = Unit {0}
 IsAnswerTo (request.Submit command) (heard.Submitted given result) = given ≡ command
 IsAnswerTo request.Step (heard.Stepped result) = Unit {0}
 IsAnswerTo (request.Protect plain) (heard.Protected given result out) = given ≡ plain

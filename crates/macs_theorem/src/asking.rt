@@ -2,7 +2,8 @@
 
 use macs_config::{Command, Identity};
 use macs_endpoint::{
-    CommandFault, ProtectFault, RefillFault, Step, StepFault, Stopped, SubmitFault, Ticket,
+    CommandFault, ProtectFault, RefillFault, RestFault, Step, StepFault, Stopped, SubmitFault,
+    Ticket,
 };
 use macs_frame::{FrameBuf, Pn};
 use macs_journal::JournalFault;
@@ -15,6 +16,7 @@ pub enum Request {
     Open,
     Command(Command),
     Refill,
+    Rest,
     Submit(Command),
     Step,
     Protect(FrameBuf),
@@ -52,6 +54,7 @@ pub enum Heard {
     Opened(Result<(), JournalFault>),
     Ran(Command, Result<(), CommandFault>),
     Refilled(Result<(), RefillFault>),
+    Rested(Result<(), RestFault>),
     Submitted(Command, Result<Ticket, SubmitFault>),
     Stepped(Result<Step, StepFault>),
     Protected {

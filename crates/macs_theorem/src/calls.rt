@@ -79,6 +79,7 @@ fn call_endpoint<D: SectorDisk>(
     *heard = match request {
         Request::Command(command) => call_command(&mut endpoint, &command),
         Request::Refill => call_refill(&mut endpoint),
+        Request::Rest => call_rest(&mut endpoint),
         Request::Submit(command) => call_submit(&mut endpoint, &command),
         Request::Step => call_step(&mut endpoint),
         Request::Protect(plain) => call_protect(&mut endpoint, plain),
@@ -108,6 +109,15 @@ fn call_refill<D: SectorDisk>(endpoint: &mut Endpoint<D>) -> Option<Heard>
     endpoint.facts();
     let result = endpoint.refill();
     Some(Heard::Refilled(result))
+}
+
+fn call_rest<D: SectorDisk>(endpoint: &mut Endpoint<D>) -> Option<Heard>
+    ensures { IsMade D.disk (HoldsEndpoint endpoint.old) asked.Rest result
+        (HoldsEndpoint endpoint.new) }
+{
+    endpoint.facts();
+    let result = endpoint.rest();
+    Some(Heard::Rested(result))
 }
 
 fn call_submit<D: SectorDisk>(endpoint: &mut Endpoint<D>, command: &Command) -> Option<Heard>

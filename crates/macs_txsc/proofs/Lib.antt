@@ -1,3 +1,4 @@
 pub mod Faults
 pub mod Needs
 pub mod Places
+pub mod Lowered

@@ -125,6 +125,34 @@ impl Tx {
         self.encoding = Some(an);
     }
 
+    /// Lowers the ceiling of each association to its next packet number: none is used until it is
+    /// raised again.
+    pub fn lower(&mut self)
+        ensures side { tx_side_of self.new ≡ tx_side_of self.old }
+        ensures ceilings { ceilings_of self.new ≡ (tx_side_of self.old).next }
+        ensures counters { counters_of self.new ≡ counters_of self.old }
+    {
+        let [first, second, third, fourth] = An::all();
+        self.lower_at(first);
+        self.lower_at(second);
+        self.lower_at(third);
+        self.lower_at(fourth);
+    }
+
+    /// Lowers the ceiling of an association to its next packet number, if there is one.
+    fn lower_at(&mut self, an: An)
+        ensures side { tx_side_of self.new ≡ tx_side_of self.old }
+        ensures ceilings { ceilings_of self.new
+            ≡ put (ceilings_of self.old) an ((tx_side_of self.old).next an) }
+        ensures few { (other : ℕ) → 4 ≤ other → ((tx_side_of self.old).next other ≡ None)
+            × (ceilings_of self.old other ≡ None) }
+        ensures counters { counters_of self.new ≡ counters_of self.old }
+    {
+        if let Some(association) = &mut self.associations[an.get() as usize] {
+            association.ceiling = association.next;
+        }
+    }
+
     /// Raises the ceiling of an existing association: not below the previous one, and at most 2^32.
     pub fn raise(&mut self, an: An, ceiling: u64)
         requires stands { IsSome ((tx_side_of self.old).tx an) }
