@@ -1,6 +1,6 @@
 -- What each command makes of the configuration, and what it leaves alone.
-use Rattle.std.proofs.Common.{◌≡◌, ◌⊎◌, ◌&&◌, ◌||◌, ◌==◌, ℕ, Bool, true, false, cond, not, List, [], ◌∷◌}
-use Rattle.std.proofs.Common.{Option, Some, None, is_none, bytes_eq, filter, refl, sym, ◌∙◌, ap, subst}
+use Rattle.std.proofs.Common.{◌≡◌, ◌&&◌, ◌||◌, ◌==◌, ℕ, Bool, true, false, cond, not, List, [], ◌∷◌, Option, Some, None}
+use Rattle.std.proofs.Common.{is_none, bytes_eq, filter, refl, sym, ◌∙◌, ap, subst}
 use Rattle.std.specs.Prelude.{IsSomeAnd}
 use Rattle.std.proofs.lemmas.Bool.{eqb-true, false≢true, not-false, or_parts}
 use Rattle.macs_aes.specs.Keys.{octets_of_key}
@@ -17,9 +17,7 @@ use Rattle.macs_config.specs.declared.command.Command.{Command}
 use Rattle.macs_config.specs.declared.command.Command.TheVariants.{RxAdd, RxDrop, RxInstall, RxRemove, SetReplay}
 use Rattle.macs_config.specs.declared.command.Command.TheVariants.{SetSciMode, SetValidate, TxInstall, TxRemove, TxUse}
 use Rattle.macs_config.proofs.Channels.{among-filter, among-put_among, bytes_eq-itself, not_among-filter}
-use Rattle.macs_headline.specs.Changing.{IsDone, IsFirstConfiguration}
-use Rattle.macs_headline.specs.Changing.{IsOnValidate, IsRxAsked}
-use Rattle.macs_headline.specs.Changing.{IsTxAsked}
+use Rattle.macs_headline.specs.Changing.{IsDone, IsFirstConfiguration, IsRxAsked, IsTxAsked}
 use Rattle.macs_headline.proofs.Accepted.{right-offset, tx_of}
 use Rattle.macs_headline.proofs.Places.{put-this, put_at-this, put_rx-this}
 
@@ -126,10 +124,3 @@ module _ (edition : Edition) (identity : Identity) (old : Config) where
       (put_rx-this old.rx sci an sci an (Some (rx_of key offset)) refl refl)
       (refl, offset_is offset (right-offset edition identity old (RxInstall sci an key start offset) ok))
   is_done (RxRemove sci an) ok = put_rx-this old.rx sci an sci an None refl refl
-
--- ---- what it leaves alone
-
-module _ (old : Config) where
-  validate_stays : (c : Command) → ¬ IsOnValidate c → (config_after old c).validate ≡ old.validate
-  validate_stays (SetValidate validate) other = absurd (other tt)
-  validate_stays c other = refl

@@ -1,38 +1,23 @@
 -- Work on what is under way at the end of a life began in a call that may begin it, and it is accepted.
 use Rattle.std.proofs.Common.{◌≡◌, ◌⊎◌, ◌&&◌, inl, inr, ℕ, Bool, true, false, cond, not, is_ok, List, [], ◌∷◌, Option}
-use Rattle.std.proofs.Common.{Some, None, Result, Ok, Err, refl, sym, ◌∙◌, ap, subst}
+use Rattle.std.proofs.Common.{Some, None, refl, sym, ◌∙◌, ap, subst}
 use Rattle.std.proofs.lemmas.Bool.{false≢true}
 use Rattle.macs_config.specs.Apply.{apply}
 use Rattle.macs_config.specs.declared.command.Command.{Command}
-use Rattle.macs_rxsc.specs.declared.verdict.Verdict.{Verdict}
 use Rattle.macs_endpoint.specs.Queue.{first_command}
 use Rattle.macs_endpoint.specs.Restart.{opened_state, state_taking_alone, state_taking_first}
-use Rattle.macs_endpoint.specs.declared.fault.CommandFault.{CommandFault}
-use Rattle.macs_endpoint.specs.declared.fault.CommandFault.TheVariants as ran
-use Rattle.macs_endpoint.specs.declared.fault.ProtectFault.{ProtectFault}
-use Rattle.macs_endpoint.specs.declared.fault.ProtectFault.TheVariants as protect
-use Rattle.macs_endpoint.specs.declared.fault.RefillFault.{RefillFault}
-use Rattle.macs_endpoint.specs.declared.fault.RefillFault.TheVariants as refill
-use Rattle.macs_endpoint.specs.declared.fault.StepFault.{StepFault}
-use Rattle.macs_endpoint.specs.declared.fault.StepFault.TheVariants as advance
-use Rattle.macs_endpoint.specs.declared.fault.Stopped.{Stopped}
-use Rattle.macs_endpoint.specs.declared.fault.SubmitFault.{SubmitFault}
-use Rattle.macs_endpoint.specs.declared.fault.SubmitFault.TheVariants as submit
-use Rattle.macs_endpoint.specs.declared.progress.Step.{Step as Progress}
-use Rattle.macs_endpoint.specs.declared.progress.Step.TheVariants.{Done, Worked}
 use Rattle.macs_endpoint.specs.declared.queue.Waiting.{Waiting}
-use Rattle.macs_endpoint.specs.State.{Advanced, AdvancedLong, Advances, Call, Commands, Protected, Protects, Ran}
-use Rattle.macs_endpoint.specs.State.{Received, Receives, Refilled, Refills, RefusedLong, Reply, State, Submits}
-use Rattle.macs_endpoint.specs.State.{Submitted, state_with_under_way}
-use Rattle.macs_endpoint.specs.State.{Rested, Rests}
-use Rattle.macs_endpoint.specs.Step.{as_refill}
-use Rattle.macs_endpoint.specs.Step.{AdvanceStep, CommandStep, Ends, Exchange, ProtectStep, ReceiveStep, RefillStep}
-use Rattle.macs_endpoint.specs.Step.{RunningStep, Step, Steps, SubmitStep, TakesUp}
+use Rattle.macs_endpoint.specs.State.{Advances, Call, Commands, Protects, Receives, Refills, Reply, State, Submits}
+use Rattle.macs_endpoint.specs.State.{state_with_under_way}
+use Rattle.macs_endpoint.specs.State.{Rests}
+use Rattle.macs_endpoint.specs.Step.{Exchange, Step, Steps, TakesUp}
 use Rattle.macs_headline.specs.CommandUnderWay.{UnderWayWasBegun, MayBegin, WasBegun}
 use Rattle.macs_headline.specs.Commands.{waiting_at_end}
 use Rattle.macs_headline.specs.History.{logs_of, state_at_end}
 use Rattle.macs_headline.specs.Refused.{refusal_at}
 use Rattle.macs_headline.proofs.Accepted.{no-refusal}
+use Rattle.macs_headline.proofs.Changes.{Begins, BeginsAndStops, Breaks, Change, Completes, Delivers, Drops, HoldsBack}
+use Rattle.macs_headline.proofs.Changes.{Obeys, Queues, Sends, Stays, Stops, change-of}
 use Rattle.macs_headline.proofs.Commands.{waits-from}
 use Rattle.macs_headline.proofs.Ledger.{some_one}
 
@@ -54,93 +39,33 @@ one_under_way old c why d hand = subst (λ (c : Command). refusal_at old c ≡ N
 same_state : (old new : State) → new ≡ old → IsAccepted old → IsAccepted new
 same_state old new is was = subst (λ (s : State). IsAccepted s) (sym is) was
 
-by_command : (old : State) (c : Command) (result : Result (Unit {0}) CommandFault) (new : State)
-    → CommandStep old c result new → IsAccepted old → IsAccepted new
-by_command old c (Ok done) new (none, makes) was = none_under_way new (ap (λ (s : State). s.under_way) makes.2)
-by_command old c (Err ran.Stopped) new h was = absurd h
-by_command old c (Err ran.Disk) new (none, accepts, is) was = subst (λ (s : State). IsAccepted s) (sym is)
-    (one_under_way old c (no-refusal old.edition old.identity old.config c accepts))
-by_command old c (Err ran.Busy) new (some, is) was = same_state old new is was
-by_command old c (Err (ran.Refused refusal)) new (none, why, is) was = same_state old new is was
-by_command old c (Err ran.GenerationsSpent) new (none, accepts, is) was = same_state old new is was
-
-by_refill : (old : State) (result : Result (Unit {0}) RefillFault) (new : State) → RefillStep old result new
-    → IsAccepted old → IsAccepted new
-by_refill old (Ok done) new (none, is) was = same_state old new is was
-by_refill old (Err refill.Stopped) new h was = absurd h
-by_refill old (Err refill.Disk) new (none, is) was = subst (λ (s : State). IsAccepted s) (sym is) was
-by_refill old (Err refill.Busy) new (some, is) was = same_state old new is was
-by_refill old (Err refill.GenerationsSpent) new (none, is) was = same_state old new is was
-
-by_submit : (old : State) (c : Command) (result : Result ℕ SubmitFault) (new : State) → SubmitStep old c result new
-    → IsAccepted old → IsAccepted new
-by_submit old c (Ok ticket) new (few, left, is_ticket, is) was = subst (λ (s : State). IsAccepted s) (sym is) was
-by_submit old c (Err submit.QueueFull) new (many, is) was = same_state old new is was
-by_submit old c (Err submit.TicketsSpent) new (few, spent, is) was = same_state old new is was
-by_submit old c (Err submit.Stopped) new h was = absurd h
-
 taken_up : (old new : State) → TakesUp old new → IsAccepted new
 taken_up old new (first, rest, waiting, idle, accepts, is) = subst (λ (s : State). IsAccepted s) (sym is)
     (one_under_way old first.command (no-refusal old.edition old.identity old.config first.command accepts))
 
-by_end : (old : State) (first : Waiting) (rest : List Waiting) (result : Result (Unit {0}) CommandFault) (new : State)
-    → Ends old first rest result new
+by_change : (old : State) (call : Call) (reply : Reply) (new : State) → Change old call reply new → IsAccepted old
     → IsAccepted new
-by_end old first rest (Ok done) new makes = none_under_way new (ap (λ (s : State). s.under_way) makes.2)
-by_end old first rest (Err (ran.Refused refusal)) new (idle, why, is) =
-    none_under_way new (ap (λ (s : State). s.under_way) is)
-by_end old first rest (Err ran.GenerationsSpent) new (idle, accepts, is) =
-    none_under_way new (ap (λ (s : State). s.under_way) is)
-by_end old first rest (Err fault) new h = absurd h
-
-by_advance : (old : State) (result : Result Progress StepFault) (new : State) → AdvanceStep old result new
-    → IsAccepted old → IsAccepted new
-by_advance old (Ok Worked) new (inl is) was = same_state old new is was
-by_advance old (Ok Worked) new (inr takes) was = taken_up old new takes
-by_advance old (Ok (Done ticket result)) new (first, rest, waiting, is_ticket, ends) was =
-    by_end old first rest result new ends
-by_advance old (Err advance.Disk) new (inl is) was = subst (λ (s : State). IsAccepted s) (sym is) was
-by_advance old (Err advance.Disk) new (inr (mid, takes, is)) was =
+by_change old call reply new (Stays is) was = same_state old new is was
+by_change old call reply new (Stops is) was = subst (λ (s : State). IsAccepted s) (sym is) was
+by_change old call reply new (Obeys c asked none makes) was = none_under_way new (ap (λ (s : State). s.under_way) makes.2)
+by_change old call reply new (Breaks c asked told none accepts is) was = subst (λ (s : State). IsAccepted s) (sym is)
+    (one_under_way old c (no-refusal old.edition old.identity old.config c accepts))
+by_change old call reply new (Queues c asked is) was = subst (λ (s : State). IsAccepted s) (sym is) was
+by_change old call reply new (Begins asked takes) was = taken_up old new takes
+by_change old call reply new (BeginsAndStops asked mid takes is) was =
     subst (λ (s : State). IsAccepted s) (sym is) (taken_up old mid takes)
-by_advance old (Err advance.Stopped) new h was = absurd h
-by_advance old result new is was = same_state old new is was
-
-by_protect : (old : State) (plain : List ℕ) (result : Result ℕ ProtectFault) (out : List ℕ) (new : State)
-    → ProtectStep old plain result out new
-    → IsAccepted old → IsAccepted new
-by_protect old plain (Ok pn) out new (none, (o, is_o, is_pn, is_out, is)) was =
+by_change old call reply new (Completes asked first rest waiting makes) was =
+    none_under_way new (ap (λ (s : State). s.under_way) makes.2)
+by_change old call reply new (Drops asked first rest waiting is) was = none_under_way new (ap (λ (s : State). s.under_way) is)
+by_change old call reply new (Sends plain asked pn out (none, (o, is_o, is_pn, is_out, is))) was =
     subst (λ (s : State). IsAccepted s) (sym is) was
-by_protect old plain (Err (protect.Tx fault)) out new (why, empty, is) was = same_state old new is was
-by_protect old plain (Err protect.Stopped) out new h was = absurd h
-
-by_receive : (old : State) (frame : List ℕ) (result : Result Verdict Stopped) (out : List ℕ) (new : State)
-    → ReceiveStep old frame result out new
-    → IsAccepted old → IsAccepted new
-by_receive old frame (Ok verdict) out new (inl (step, is_first, is_verdict, is_out, is)) was = same_state old new is was
-by_receive old frame (Ok verdict) out new (inr (a, there, inl (is_verdict, above, is_out, is))) was =
-    subst (λ (s : State). IsAccepted s) (sym is) was
-by_receive old frame (Ok verdict) out new (inr (a, there, inr (is_verdict, is_out, is))) was =
-    subst (λ (s : State). IsAccepted s) (sym is) was
-by_receive old frame (Err stopped) out new h was = absurd h
-
-by_call : (old : State) (call : Call) (reply : Reply) (new : State) → RunningStep old call reply new → IsAccepted old
-    → IsAccepted new
-by_call old (Commands c) (Ran result) new h was = by_command old c result new h was
-by_call old Refills (Refilled result) new h was = by_refill old result new h was
-by_call old Rests (Rested result) new h was = by_refill old (as_refill result) new h was
-by_call old (Submits c) (Submitted result) new h was = by_submit old c result new h was
-by_call old Advances (Advanced result) new h was = by_advance old result new h was
-by_call old (Protects plain) (Protected result out) new h was = by_protect old plain result out new h was
-by_call old (Receives frame) (Received result out) new h was = by_receive old frame result out new h was
-by_call old (Commands c) RefusedLong new (none, why, is) was = same_state old new is was
-by_call old Advances (AdvancedLong ticket) new (first, rest, waiting, is_ticket, (idle, why, is)) was =
-    none_under_way new (ap (λ (s : State). s.under_way) is)
-by_call old call reply new h was = absurd h
+by_change old call reply new (HoldsBack frame asked a there is) was = subst (λ (s : State). IsAccepted s) (sym is) was
+by_change old call reply new (Delivers frame asked a there is) was = subst (λ (s : State). IsAccepted s) (sym is) was
 
 by_step : (old : State) (call : Call) (reply : Reply) (new : State) → Step old call reply new → IsAccepted old
     → IsAccepted new
 by_step old call reply new (inl (stopped, answer, is)) was = same_state old new is was
-by_step old call reply new (inr (running, h)) was = by_call old call reply new h was
+by_step old call reply new (inr (running, h)) was = by_change old call reply new (change-of old new call reply h) was
 
 by_steps : (old : State) (exchanges : List Exchange) (new : State) → Steps old exchanges new → IsAccepted old
     → IsAccepted new

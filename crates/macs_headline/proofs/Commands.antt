@@ -31,8 +31,8 @@ use Rattle.macs_endpoint.specs.State.{Received, Receives, Refilled, Refills, Ref
 use Rattle.macs_endpoint.specs.State.{Submitted}
 use Rattle.macs_endpoint.specs.State.{Rested, Rests}
 use Rattle.macs_endpoint.specs.Step.{as_refill}
-use Rattle.macs_endpoint.specs.Step.{AdvanceStep, CommandStep, Ends, RefusesFirst, Exchange, IsStopped, ProtectStep}
-use Rattle.macs_endpoint.specs.Step.{ReceiveStep, RefillStep, RunningStep, Step, Steps, SubmitStep, TakesUp}
+use Rattle.macs_endpoint.specs.Step.{AdvanceStep, CommandStep, Ends, Exchange, IsStopped, ProtectStep}
+use Rattle.macs_endpoint.specs.Step.{ReceiveStep, RefillStep, RunningStep, Step, Steps, SubmitStep, TakesUp, state_without_first}
 use Rattle.macs_headline.specs.Commands.{CommandsKept, CommandsMake, FindsPrefix, acknowledged_by}
 use Rattle.macs_headline.specs.Commands.{acknowledged_commands, acknowledged_from, waiting_after, waiting_from}
 use Rattle.macs_headline.specs.Commands.{without_first}
@@ -58,25 +58,17 @@ record IsMadeBy (old new : State) (commands : List Command) (waits : List Waitin
   waiting : new.waiting ≡ waits
 
 -- nothing of this changes
-record IsLike (old new : State) : Type 0 where
-  edition : new.edition ≡ old.edition
-  identity : new.identity ≡ old.identity
-  config : new.config ≡ old.config
-  waiting : new.waiting ≡ old.waiting
-
-same_state : (old new : State) → new ≡ old → IsLike old new
-same_state old new is = record {
-  edition = ap (λ (s : State). s.edition) is;
-  identity = ap (λ (s : State). s.identity) is;
-  config = ap (λ (s : State). s.config) is;
-  waiting = ap (λ (s : State). s.waiting) is;
+as_before : (old mid new : State) → new ≡ mid → mid.edition ≡ old.edition → mid.identity ≡ old.identity
+    → mid.config ≡ old.config → mid.waiting ≡ old.waiting → IsMadeBy old new [] old.waiting
+as_before old mid new is edition identity config waiting = record {
+  edition = ap (λ (s : State). s.edition) is ∙ edition;
+  identity = ap (λ (s : State). s.identity) is ∙ identity;
+  made = ap (λ (s : State). s.config) is ∙ config;
+  waiting = ap (λ (s : State). s.waiting) is ∙ waiting;
 }
 
-like : (old new : State) → IsLike old new → IsMadeBy old new [] old.waiting
-like old new is = record { edition = is.edition; identity = is.identity; made = is.config; waiting = is.waiting }
-
 unchanged : (old new : State) → new ≡ old → IsMadeBy old new [] old.waiting
-unchanged old new is = like old new (same_state old new is)
+unchanged old new is = as_before old old new is refl refl refl refl
 
 -- those that a call with this answer acknowledges, and those that wait after it
 abbrev IsMadeByCall : State → State → Call → Reply → Type 0
@@ -94,23 +86,13 @@ by_command old c (Ok done) new (none, h) = record {
 }
 by_command old c (Err ran.Stopped) new h = absurd h
 by_command old c (Err ran.Busy) new (some, is) = unchanged old new is
-by_command old c (Err fault) new h = record {
-  edition = ap (λ (s : State). s.edition) h.2;
-  identity = ap (λ (s : State). s.identity) h.2;
-  made = ap (λ (s : State). s.config) h.2;
-  waiting = ap (λ (s : State). s.waiting) h.2;
-}
+by_command old c (Err fault) new h = as_before old _ new h.2 refl refl refl refl
 
 by_refill : (old : State) (result : Result (Unit {0}) RefillFault) (new : State) → RefillStep old result new
     → IsMadeByCall old new Refills (Refilled result)
 by_refill old (Ok done) new (none, is) = unchanged old new is
 by_refill old (Err refill.Stopped) new h = absurd h
-by_refill old (Err fault) new (none, is) = record {
-  edition = ap (λ (s : State). s.edition) is;
-  identity = ap (λ (s : State). s.identity) is;
-  made = ap (λ (s : State). s.config) is;
-  waiting = ap (λ (s : State). s.waiting) is;
-}
+by_refill old (Err fault) new (none, is) = as_before old _ new is refl refl refl refl
 
 by_submit : (old : State) (c : Command) (result : Result ℕ SubmitFault) (new : State) → SubmitStep old c result new
     → IsMadeByCall old new (Submits c) (Submitted result)
@@ -125,17 +107,22 @@ by_submit old c (Err submit.TicketsSpent) new (few, spent, is) = unchanged old n
 by_submit old c (Err submit.Stopped) new h = absurd h
 
 -- the first one is started, and still waits
-taken_up : (old new : State) → TakesUp old new → IsLike old new
-taken_up old new (first, rest, waiting, idle, accepts, is) = record {
-  edition = ap (λ (s : State). s.edition) is;
-  identity = ap (λ (s : State). s.identity) is;
-  config = ap (λ (s : State). s.config) is;
-  waiting = ap (λ (s : State). s.waiting) is;
-}
+taken_up : (old new : State) → TakesUp old new → IsMadeBy old new [] old.waiting
+taken_up old new (first, rest, waiting, idle, accepts, is) = as_before old _ new is refl refl refl refl
 
 -- what is chosen where two numbers are one
 chosen : {X : Type 0} (n m : ℕ) (x y : X) → n ≡ m → (if n == m then x else y) ≡ x
 chosen n m x y same = ap (λ (b : Bool). cond b x y) (eq-eqb n m same)
+
+-- the first one no longer waits, and did not take effect
+dropped : (old : State) (first : Waiting) (rest : List Waiting) (ticket : ℕ) (new : State) → ticket ≡ first.ticket
+    → new ≡ state_without_first old rest → IsMadeBy old new [] (without_first ticket (first ∷ rest))
+dropped old first rest ticket new is_ticket is = record {
+  edition = ap (λ (s : State). s.edition) is;
+  identity = ap (λ (s : State). s.identity) is;
+  made = ap (λ (s : State). s.config) is;
+  waiting = ap (λ (s : State). s.waiting) is ∙ sym (chosen first.ticket ticket rest (first ∷ rest) (sym is_ticket));
+}
 
 -- the first one is done with, of those that wait
 by_end : (old : State) (first : Waiting) (rest : List Waiting) (ticket : ℕ) (result : Result (Unit {0}) CommandFault)
@@ -151,65 +138,30 @@ by_end old first rest ticket (Ok done) new is_ticket h = record {
       (h.0, h.1, ap (λ (s : State). s.config) h.2);
   waiting = ap (λ (s : State). s.waiting) h.2 ∙ sym (chosen first.ticket ticket rest (first ∷ rest) (sym is_ticket));
 }
-by_end old first rest ticket (Err (ran.Refused refusal)) new is_ticket (idle, why, is) = record {
-  edition = ap (λ (s : State). s.edition) is;
-  identity = ap (λ (s : State). s.identity) is;
-  made = ap (λ (s : State). s.config) is;
-  waiting = ap (λ (s : State). s.waiting) is ∙ sym (chosen first.ticket ticket rest (first ∷ rest) (sym is_ticket));
-}
-by_end old first rest ticket (Err ran.GenerationsSpent) new is_ticket (idle, accepts, is) = record {
-  edition = ap (λ (s : State). s.edition) is;
-  identity = ap (λ (s : State). s.identity) is;
-  made = ap (λ (s : State). s.config) is;
-  waiting = ap (λ (s : State). s.waiting) is ∙ sym (chosen first.ticket ticket rest (first ∷ rest) (sym is_ticket));
-}
+by_end old first rest ticket (Err (ran.Refused refusal)) new is_ticket (idle, why, is) =
+    dropped old first rest ticket new is_ticket is
+by_end old first rest ticket (Err ran.GenerationsSpent) new is_ticket (idle, accepts, is) =
+    dropped old first rest ticket new is_ticket is
 by_end old first rest ticket (Err fault) new is_ticket h = absurd h
-
--- so is one whose key is too long, and none takes effect
-by_long : (old : State) (first : Waiting) (rest : List Waiting) (ticket : ℕ) (new : State) → ticket ≡ first.ticket
-    → RefusesFirst old first rest new
-    → IsMadeBy old new [] (without_first ticket (first ∷ rest))
-by_long old first rest ticket new is_ticket (idle, why, is) = record {
-  edition = ap (λ (s : State). s.edition) is;
-  identity = ap (λ (s : State). s.identity) is;
-  made = ap (λ (s : State). s.config) is;
-  waiting = ap (λ (s : State). s.waiting) is ∙ sym (chosen first.ticket ticket rest (first ∷ rest) (sym is_ticket));
-}
 
 by_advance : (old : State) (result : Result Progress StepFault) (new : State) → AdvanceStep old result new
     → IsMadeByCall old new Advances (Advanced result)
 by_advance old (Ok Worked) new (inl is) = unchanged old new is
-by_advance old (Ok Worked) new (inr takes) = like old new (taken_up old new takes)
+by_advance old (Ok Worked) new (inr takes) = taken_up old new takes
 by_advance old (Ok (Done ticket result)) new (first, rest, waiting, is_ticket, ends) =
     subst (λ (w : List Waiting). IsMadeBy old new (acknowledged_by w Advances (Advanced (Ok (Done ticket result))))
     (without_first ticket w)) (sym waiting)
     (by_end old first rest ticket result new is_ticket ends)
-by_advance old (Err advance.Disk) new (inl is) = record {
-  edition = ap (λ (s : State). s.edition) is;
-  identity = ap (λ (s : State). s.identity) is;
-  made = ap (λ (s : State). s.config) is;
-  waiting = ap (λ (s : State). s.waiting) is;
-}
+by_advance old (Err advance.Disk) new (inl is) = as_before old _ new is refl refl refl refl
 by_advance old (Err advance.Disk) new (inr (mid, takes, is)) =
-    let up = taken_up old mid takes in
-    record {
-      edition = ap (λ (s : State). s.edition) is ∙ up.edition;
-      identity = ap (λ (s : State). s.identity) is ∙ up.identity;
-      made = ap (λ (s : State). s.config) is ∙ up.config;
-      waiting = ap (λ (s : State). s.waiting) is ∙ up.waiting;
-    }
+    let up = taken_up old mid takes in as_before old _ new is up.edition up.identity up.made up.waiting
 by_advance old (Err advance.Stopped) new h = absurd h
 by_advance old result new is = unchanged old new is
 
 by_protect : (old : State) (plain : List ℕ) (result : Result ℕ ProtectFault) (out : List ℕ) (new : State)
     → ProtectStep old plain result out new
     → IsMadeByCall old new (Protects plain) (Protected result out)
-by_protect old plain (Ok pn) out new (none, (o, is_o, is_pn, is_out, is)) = record {
-  edition = ap (λ (s : State). s.edition) is;
-  identity = ap (λ (s : State). s.identity) is;
-  made = ap (λ (s : State). s.config) is;
-  waiting = ap (λ (s : State). s.waiting) is;
-}
+by_protect old plain (Ok pn) out new (none, (o, is_o, is_pn, is_out, is)) = as_before old _ new is refl refl refl refl
 by_protect old plain (Err (protect.Tx fault)) out new (why, empty, is) = unchanged old new is
 by_protect old plain (Err protect.Stopped) out new h = absurd h
 
@@ -217,18 +169,8 @@ by_receive : (old : State) (frame : List ℕ) (result : Result Verdict Stopped) 
     → ReceiveStep old frame result out new
     → IsMadeByCall old new (Receives frame) (Received result out)
 by_receive old frame (Ok verdict) out new (inl (step, is_first, is_verdict, is_out, is)) = unchanged old new is
-by_receive old frame (Ok verdict) out new (inr (a, there, inl (is_verdict, above, is_out, is))) = record {
-  edition = ap (λ (s : State). s.edition) is;
-  identity = ap (λ (s : State). s.identity) is;
-  made = ap (λ (s : State). s.config) is;
-  waiting = ap (λ (s : State). s.waiting) is;
-}
-by_receive old frame (Ok verdict) out new (inr (a, there, inr (is_verdict, is_out, is))) = record {
-  edition = ap (λ (s : State). s.edition) is;
-  identity = ap (λ (s : State). s.identity) is;
-  made = ap (λ (s : State). s.config) is;
-  waiting = ap (λ (s : State). s.waiting) is;
-}
+by_receive old frame (Ok verdict) out new (inr (a, there, inl (is_verdict, above, is_out, is))) = as_before old _ new is refl refl refl refl
+by_receive old frame (Ok verdict) out new (inr (a, there, inr (is_verdict, is_out, is))) = as_before old _ new is refl refl refl refl
 by_receive old frame (Err stopped) out new h = absurd h
 
 by_call : (old : State) (call : Call) (reply : Reply) (new : State) → RunningStep old call reply new
@@ -241,9 +183,9 @@ by_call old Advances (Advanced result) new h = by_advance old result new h
 by_call old (Protects plain) (Protected result out) new h = by_protect old plain result out new h
 by_call old (Receives frame) (Received result out) new h = by_receive old frame result out new h
 by_call old (Commands c) RefusedLong new (none, why, is) = unchanged old new is
-by_call old Advances (AdvancedLong ticket) new (first, rest, waiting, is_ticket, ends) =
+by_call old Advances (AdvancedLong ticket) new (first, rest, waiting, is_ticket, (idle, why, is)) =
     subst (λ (w : List Waiting). IsMadeBy old new [] (without_first ticket w)) (sym waiting)
-    (by_long old first rest ticket new is_ticket ends)
+    (dropped old first rest ticket new is_ticket is)
 by_call old call reply new h = absurd h
 
 by_stopped : (old : State) (call : Call) (reply : Reply) (new : State) → IsStopped call reply → new ≡ old

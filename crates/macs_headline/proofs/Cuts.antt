@@ -1,36 +1,28 @@
 -- What a power loss inside a call leaves: the state before it, with its command under way where work on it may have
 -- begun.
 use Rattle.std.proofs.Common.{◌≡◌, ◌⊎◌, ◌&&◌, inl, inr, ℕ, Bool, true, false, cond, not, List, [], ◌∷◌, Option, Some}
-use Rattle.std.proofs.Common.{None, Result, Ok, Err, is_ok, refl, sym, ◌∙◌, ap, subst, arith}
+use Rattle.std.proofs.Common.{None, Ok, is_ok, refl, sym, ◌∙◌, ap, subst, arith}
 use Rattle.macs_config.specs.Apply.{apply}
 use Rattle.macs_config.specs.Config.{Config, Edition, this_edition}
 use Rattle.macs_config.specs.declared.command.Command.{Command}
 use Rattle.macs_disk.specs.Disk.{Disk, IsHonest, LeftSince}
 use Rattle.macs_disk.specs.States.{Image, IsImage}
 use Rattle.macs_store.specs.Value as store
-use Rattle.macs_endpoint.specs.declared.fault.CommandFault.{CommandFault}
-use Rattle.macs_endpoint.specs.declared.fault.CommandFault.TheVariants as ran
-use Rattle.macs_endpoint.specs.declared.fault.RefillFault.{RefillFault}
-use Rattle.macs_endpoint.specs.declared.fault.RefillFault.TheVariants as refill
-use Rattle.macs_endpoint.specs.declared.fault.StepFault.{StepFault}
-use Rattle.macs_endpoint.specs.declared.fault.StepFault.TheVariants as advance
-use Rattle.macs_endpoint.specs.declared.progress.Step.{Step as Progress}
-use Rattle.macs_endpoint.specs.declared.progress.Step.TheVariants.{Done, Worked}
 use Rattle.macs_endpoint.specs.declared.queue.Waiting.{Waiting}
 use Rattle.macs_endpoint.specs.Calls.{IsCall}
 use Rattle.macs_endpoint.specs.Limits.{IsStill}
 use Rattle.macs_endpoint.specs.Queue.{first_command}
 use Rattle.macs_endpoint.specs.Restart.{Fits, Resumes, opened_state, state_during, state_taking, state_taking_alone}
 use Rattle.macs_endpoint.specs.Restart.{state_taking_first}
-use Rattle.macs_endpoint.specs.State.{Advanced, AdvancedLong, Advances, Call, Commands, Logs, NoneWait, Protected}
-use Rattle.macs_endpoint.specs.State.{Protects, Ran, Received, Receives, Refilled, Refills, RefusedLong, Reply, State}
-use Rattle.macs_endpoint.specs.State.{Submits, Submitted, state_after_fault, state_with_under_way}
-use Rattle.macs_endpoint.specs.State.{Rested, Rests}
-use Rattle.macs_endpoint.specs.Step.{as_refill}
-use Rattle.macs_endpoint.specs.Step.{AdvanceStep, CommandStep, Ends, RefillStep, Step, TakesUp, state_after_command}
-use Rattle.macs_endpoint.specs.Step.{state_without_first}
+use Rattle.macs_endpoint.specs.State.{Advances, Call, Commands, Logs, NoneWait, Protected, Protects, Received, Receives}
+use Rattle.macs_endpoint.specs.State.{Refills, Reply, State, Submits, Submitted, state_after_fault}
+use Rattle.macs_endpoint.specs.State.{state_with_under_way}
+use Rattle.macs_endpoint.specs.State.{Rests}
+use Rattle.macs_endpoint.specs.Step.{Step, TakesUp, state_after_command, state_without_first}
 use Rattle.macs_endpoint.specs.Value.{EndpointValue, IsAtRest, IsBacked, IsKeeping, IsReserving, IsSoundEndpoint}
 use Rattle.macs_endpoint.specs.Value.{disk_in, state_of}
+use Rattle.macs_headline.proofs.Changes.{Begins, BeginsAndStops, Breaks, Change, Completes, Delivers, Drops, HoldsBack}
+use Rattle.macs_headline.proofs.Changes.{Obeys, Queues, Sends, Stays, Stops, change-of}
 
 -- ---- what is under way
 
@@ -59,6 +51,14 @@ module _ {D : Type 0} (e : EndpointValue D) (logs : Logs) where
     alone = λ running none. absurd (none_waits at.first at.rest (sym at.waiting ∙ none));
     first = λ running c hand. ap first_command at.waiting ∙ sym at.under_way ∙ hand;
   }
+
+-- the call may make device calls
+abbrev Works : Call → Type 0
+Works (Commands c) = Unit {0}
+Works Refills = Unit {0}
+Works Rests = Unit {0}
+Works Advances = Unit {0}
+Works call = ⊥
 
 -- ---- states that a restart does not tell apart
 
@@ -253,29 +253,6 @@ module _ (edition : Edition) (sectors : ℕ) (image : Image) where
 
   -- ---- what fits the state after a call fits the one while it is under way
 
-  by_command : (old : State) (c : Command) (result : Result (Unit {0}) CommandFault) (new : State) → old.stopped ≡ false
-      → IsSettled old
-      → CommandStep old c result new → FitsHere new → FitsHere (state_during old (Commands c))
-  by_command old c (Ok done) new running settled (none, (config, ok, is)) fits =
-      during_alone old c none
-      (taken old c running (ap is_ok ok)
-      (fits_done (state_with_under_way old c) old.waiting c config refl ok (subst FitsHere is fits)))
-  by_command old c (Err ran.Stopped) new running settled h fits = absurd h
-  by_command old c (Err ran.Disk) new running settled (none, accepts, is) fits =
-      during_alone old c none
-      (taken old c running accepts (fits_running (state_with_under_way old c) (subst FitsHere is fits)))
-  by_command old c (Err ran.Busy) new running settled (some, is) fits =
-      fits_during old (Commands c) settled (subst FitsHere is fits)
-  by_command old c (Err fault) new running settled h fits =
-      fits_during old (Commands c) settled (subst FitsHere h.2 fits)
-
-  by_refill : (old : State) (result : Result (Unit {0}) RefillFault) (new : State) → RefillStep old result new
-      → FitsHere new → FitsHere old
-  by_refill old (Ok done) new (none, is) fits = subst FitsHere is fits
-  by_refill old (Err refill.Stopped) new h fits = absurd h
-  by_refill old (Err refill.Disk) new (none, is) fits = fits_running old (subst FitsHere is fits)
-  by_refill old (Err fault) new (none, is) fits = subst FitsHere is fits
-
   by_taking : (old new : State) → old.stopped ≡ false → TakesUp old new → FitsHere new
       → FitsHere (state_during old Advances)
   by_taking old new running (first, rest, waiting, idle, accepts, is) fits =
@@ -297,66 +274,46 @@ module _ (edition : Edition) (sectors : ℕ) (image : Image) where
       ∙ ap first_command waiting in
       during_held old first.command its (fits_done old rest first.command config its ok fits)
 
-  by_end : (old : State) (first : Waiting) (rest : List Waiting) (result : Result (Unit {0}) CommandFault) (new : State)
-      → old.stopped ≡ false → IsSettled old
-      → old.waiting ≡ first ∷ rest → Ends old first rest result new → FitsHere new
-      → FitsHere (state_during old Advances)
-  by_end old first rest (Ok done) new running settled waiting (config, ok, is) fits =
-      by_done old first rest config old.under_way running settled waiting refl ok (subst FitsHere is fits)
-  by_end old first rest (Err (ran.Refused refusal)) new running settled waiting (idle, why, is) fits =
-      fits_during old Advances settled (fits_refused old rest (subst FitsHere is fits))
-  by_end old first rest (Err ran.GenerationsSpent) new running settled waiting (idle, accepts, is) fits =
-      fits_during old Advances settled (fits_refused old rest (subst FitsHere is fits))
-  by_end old first rest (Err fault) new running settled waiting h fits = absurd h
+  by_change : (old : State) (call : Call) (reply : Reply) (new : State) → Works call → old.stopped ≡ false
+      → IsSettled old → Change old call reply new → FitsHere new → FitsHere (state_during old call)
+  by_change old call reply new works running settled (Stays is) fits =
+      fits_during old call settled (subst FitsHere is fits)
+  by_change old call reply new works running settled (Stops is) fits =
+      fits_during old call settled (fits_running old (subst FitsHere is fits))
+  by_change old call reply new works running settled (Obeys c asked none (config, ok, is)) fits =
+      subst (λ (call : Call). FitsHere (state_during old call)) (sym asked)
+      (during_alone old c none
+      (taken old c running (ap is_ok ok)
+      (fits_done (state_with_under_way old c) old.waiting c config refl ok (subst FitsHere is fits))))
+  by_change old call reply new works running settled (Breaks c asked told none accepts is) fits =
+      subst (λ (call : Call). FitsHere (state_during old call)) (sym asked)
+      (during_alone old c none
+      (taken old c running accepts (fits_running (state_with_under_way old c) (subst FitsHere is fits))))
+  by_change old call reply new works running settled (Queues c asked is) fits =
+      absurd (subst (λ (call : Call). Works call) asked works)
+  by_change old call reply new works running settled (Begins asked takes) fits =
+      subst (λ (call : Call). FitsHere (state_during old call)) (sym asked) (by_taking old new running takes fits)
+  by_change old call reply new works running settled (BeginsAndStops asked mid takes is) fits =
+      subst (λ (call : Call). FitsHere (state_during old call)) (sym asked)
+      (by_taking old mid running takes (fits_running mid (subst FitsHere is fits)))
+  by_change old call reply new works running settled (Completes asked first rest waiting (config, ok, is)) fits =
+      subst (λ (call : Call). FitsHere (state_during old call)) (sym asked)
+      (by_done old first rest config old.under_way running settled waiting refl ok (subst FitsHere is fits))
+  by_change old call reply new works running settled (Drops asked first rest waiting is) fits =
+      fits_during old call settled (fits_refused old rest (subst FitsHere is fits))
+  by_change old call reply new works running settled (Sends plain asked pn out h) fits =
+      absurd (subst (λ (call : Call). Works call) asked works)
+  by_change old call reply new works running settled (HoldsBack frame asked a there is) fits =
+      absurd (subst (λ (call : Call). Works call) asked works)
+  by_change old call reply new works running settled (Delivers frame asked a there is) fits =
+      absurd (subst (λ (call : Call). Works call) asked works)
 
-  by_advance : (old : State) (result : Result Progress StepFault) (new : State) → old.stopped ≡ false → IsSettled old
-      → AdvanceStep old result new → FitsHere new
-      → FitsHere (state_during old Advances)
-  by_advance old (Ok Worked) new running settled (inl is) fits =
-      fits_during old Advances settled (subst FitsHere is fits)
-  by_advance old (Ok Worked) new running settled (inr takes) fits = by_taking old new running takes fits
-  by_advance old (Ok (Done ticket result)) new running settled (first, rest, waiting, is_ticket, ends) fits =
-      by_end old first rest result new running settled waiting ends fits
-  by_advance old (Err advance.Disk) new running settled (inl is) fits =
-      fits_during old Advances settled (fits_running old (subst FitsHere is fits))
-  by_advance old (Err advance.Disk) new running settled (inr (mid, takes, is)) fits =
-      by_taking old mid running takes (fits_running mid (subst FitsHere is fits))
-  by_advance old (Err advance.Stopped) new running settled h fits = absurd h
-  by_advance old result new running settled is fits = fits_during old Advances settled (subst FitsHere is fits)
-
-  pub during-command : (old : State) (c : Command) (reply : Reply) (new : State) → IsSettled old
-      → Step old (Commands c) reply new → FitsHere new
-      → FitsHere (state_during old (Commands c))
-  during-command old c reply new settled (inl (stopped, answer, is)) fits =
-      fits_during old (Commands c) settled (subst FitsHere is fits)
-  during-command old c (Ran result) new settled (inr (running, h)) fits =
-      by_command old c result new running settled h fits
-  during-command old c RefusedLong new settled (inr (running, (none, why, is))) fits =
-      fits_during old (Commands c) settled (subst FitsHere is fits)
-  during-command old c reply new settled (inr (running, h)) fits = absurd h
-
-  pub during-refill : (old : State) (reply : Reply) (new : State) → Step old Refills reply new → FitsHere new
-      → FitsHere old
-  during-refill old reply new (inl (stopped, answer, is)) fits = subst FitsHere is fits
-  during-refill old (Refilled result) new (inr (running, h)) fits = by_refill old result new h fits
-  during-refill old reply new (inr (running, h)) fits = absurd h
-
-  pub during-rest : (old : State) (reply : Reply) (new : State) → Step old Rests reply new → FitsHere new
-      → FitsHere old
-  during-rest old reply new (inl (stopped, answer, is)) fits = subst FitsHere is fits
-  during-rest old (Rested result) new (inr (running, h)) fits = by_refill old (as_refill result) new h fits
-  during-rest old reply new (inr (running, h)) fits = absurd h
-
-  pub during-step : (old : State) (reply : Reply) (new : State) → IsSettled old → Step old Advances reply new
-      → FitsHere new → FitsHere (state_during old Advances)
-  during-step old reply new settled (inl (stopped, answer, is)) fits =
-      fits_during old Advances settled (subst FitsHere is fits)
-  during-step old (Advanced result) new settled (inr (running, h)) fits =
-      by_advance old result new running settled h fits
-  during-step old (AdvancedLong ticket) new settled
-      (inr (running, (first, rest, waiting, is_ticket, (idle, why, is)))) fits =
-      fits_during old Advances settled (fits_refused old rest (subst FitsHere is fits))
-  during-step old reply new settled (inr (running, h)) fits = absurd h
+  during_call : (old : State) (call : Call) (reply : Reply) (new : State) → Works call → IsSettled old
+      → Step old call reply new → FitsHere new → FitsHere (state_during old call)
+  during_call old call reply new works settled (inl (stopped, answer, is)) fits =
+      fits_during old call settled (subst FitsHere is fits)
+  during_call old call reply new works settled (inr (running, h)) fits =
+      by_change old call reply new works running settled (change-of old new call reply h) fits
 
 -- ---- calls of an endpoint
 
@@ -367,76 +324,58 @@ still_left a b image same left =
     let at_now : at_a.0 ≡ a.clock = omega (arith, at_a.1, at_a.2) in
     subst (λ (k : ℕ). IsImage (a.past k) image) at_now at_a.3
 
-submits_still : {D : Type 0} (old new : EndpointValue D) (logs later : Logs) (c : Command) (reply : Reply)
-    → Step (state_of old logs) (Submits c) reply (state_of new later) → IsStill old (Submits c) reply new
-    → new.store ≡ old.store
-submits_still old new logs later c (Submitted result) step still = still
-submits_still old new logs later c reply (inl h) still = absurd h.1
-submits_still old new logs later c reply (inr h) still = absurd h.1
+-- the call makes none
+abbrev Rests : Call → Type 0
+Rests (Submits c) = Unit {0}
+Rests (Protects plain) = Unit {0}
+Rests (Receives frame) = Unit {0}
+Rests call = ⊥
 
-protects_still : {D : Type 0} (old new : EndpointValue D) (logs later : Logs) (plain : List ℕ) (reply : Reply)
-    → Step (state_of old logs) (Protects plain) reply (state_of new later) → IsStill old (Protects plain) reply new
-    → new.store ≡ old.store
-protects_still old new logs later plain (Protected result out) step still = still
-protects_still old new logs later plain reply (inl h) still = absurd h.1
-protects_still old new logs later plain reply (inr h) still = absurd h.1
-
-receives_still : {D : Type 0} (old new : EndpointValue D) (logs later : Logs) (frame : List ℕ) (reply : Reply)
-    → Step (state_of old logs) (Receives frame) reply (state_of new later) → IsStill old (Receives frame) reply new
-    → new.store ≡ old.store
-receives_still old new logs later frame (Received result out) step still = still
-receives_still old new logs later frame reply (inl h) still = absurd h.1
-receives_still old new logs later frame reply (inr h) still = absurd h.1
+stays : {D : Type 0} (old new : EndpointValue D) (logs later : Logs) (call : Call) (reply : Reply) → Rests call
+    → Step (state_of old logs) call reply (state_of new later) → IsStill old call reply new → new.store ≡ old.store
+stays old new logs later (Submits c) (Submitted result) rests step still = still
+stays old new logs later (Protects plain) (Protected result out) rests step still = still
+stays old new logs later (Receives frame) (Received result out) rests step still = still
+stays old new logs later (Submits c) reply rests (inl h) still = absurd h.1
+stays old new logs later (Submits c) reply rests (inr h) still = absurd h.1
+stays old new logs later (Protects plain) reply rests (inl h) still = absurd h.1
+stays old new logs later (Protects plain) reply rests (inr h) still = absurd h.1
+stays old new logs later (Receives frame) reply rests (inl h) still = absurd h.1
+stays old new logs later (Receives frame) reply rests (inr h) still = absurd h.1
+stays old new logs later call reply rests step still = absurd rests
 
 module _ {D : Type 0} (disk_of : D → Disk) (last after : EndpointValue D) (logs : Logs) (reply : Reply)
     (sound : IsSoundEndpoint last)
     (honest : IsHonest (disk_in disk_of last)) (backed : IsBacked disk_of last) where
+  by_working : (call : Call) → Works call
+      → IsCall disk_of last call reply after → (image : Image)
+      → LeftSince (disk_in disk_of after) (disk_in disk_of last).clock image
+      → Fits this_edition (disk_in disk_of last).sectors image (state_during (state_of last logs) call)
+  by_working call works is image left =
+      let step = is.behaves.step logs in
+      elim (((is.survives (is.device.works.honest ∙ honest) backed).any_moment logs step.0).each image left) [
+        | inl before ↦ before
+        | inr later ↦ during_call this_edition (disk_in disk_of last).sectors image (state_of last logs) call reply
+            (state_of after step.0) works (by_work last logs sound.work) step.1 later
+      ]
+
+  by_resting : (call : Call) → Rests call → IsCall disk_of last call reply after → (image : Image)
+      → LeftSince (disk_in disk_of after) (disk_in disk_of last).clock image
+      → Fits this_edition (disk_in disk_of last).sectors image (state_of last logs)
+  by_resting call rests is image left =
+      let step = is.behaves.step logs in
+      let same = stays last after logs step.0 call reply rests step.1 is.behaves.still in
+      backed.fits logs image (still_left (disk_in disk_of last) (disk_in disk_of after) image
+      (ap (λ (s : store.StoreValue D). store.disk_in disk_of s) (sym same)) left)
+
   -- what a power loss at some moment of a call leaves
   pub cut-call : (call : Call) → IsCall disk_of last call reply after → (image : Image)
       → LeftSince (disk_in disk_of after) (disk_in disk_of last).clock image
       → Fits this_edition (disk_in disk_of last).sectors image (state_during (state_of last logs) call)
-  cut-call (Commands c) is image left =
-      let step = is.behaves.step logs in
-      elim (((is.survives (is.device.works.honest ∙ honest) backed).any_moment logs step.0).each image left) [
-        | inl before ↦ before
-        | inr later ↦ during-command this_edition (disk_in disk_of last).sectors image (state_of last logs) c reply
-            (state_of after step.0)
-            (by_work last logs sound.work) step.1 later
-      ]
-  cut-call Refills is image left =
-      let step = is.behaves.step logs in
-      elim (((is.survives (is.device.works.honest ∙ honest) backed).any_moment logs step.0).each image left) [
-        | inl before ↦ before
-        | inr later ↦ during-refill this_edition (disk_in disk_of last).sectors image (state_of last logs) reply
-            (state_of after step.0) step.1 later
-      ]
-  cut-call Rests is image left =
-      let step = is.behaves.step logs in
-      elim (((is.survives (is.device.works.honest ∙ honest) backed).any_moment logs step.0).each image left) [
-        | inl before ↦ before
-        | inr later ↦ during-rest this_edition (disk_in disk_of last).sectors image (state_of last logs) reply
-            (state_of after step.0) step.1 later
-      ]
-  cut-call (Submits c) is image left =
-      let step = is.behaves.step logs in
-      let same = submits_still last after logs step.0 c reply step.1 is.behaves.still in
-      backed.fits logs image (still_left (disk_in disk_of last) (disk_in disk_of after) image
-      (ap (λ (s : store.StoreValue D). store.disk_in disk_of s) (sym same)) left)
-  cut-call Advances is image left =
-      let step = is.behaves.step logs in
-      elim (((is.survives (is.device.works.honest ∙ honest) backed).any_moment logs step.0).each image left) [
-        | inl before ↦ before
-        | inr later ↦
-            during-step this_edition (disk_in disk_of last).sectors image (state_of last logs) reply
-            (state_of after step.0) (by_work last logs sound.work) step.1 later
-      ]
-  cut-call (Protects plain) is image left =
-      let step = is.behaves.step logs in
-      let same = protects_still last after logs step.0 plain reply step.1 is.behaves.still in
-      backed.fits logs image (still_left (disk_in disk_of last) (disk_in disk_of after) image
-      (ap (λ (s : store.StoreValue D). store.disk_in disk_of s) (sym same)) left)
-  cut-call (Receives frame) is image left =
-      let step = is.behaves.step logs in
-      let same = receives_still last after logs step.0 frame reply step.1 is.behaves.still in
-      backed.fits logs image (still_left (disk_in disk_of last) (disk_in disk_of after) image
-      (ap (λ (s : store.StoreValue D). store.disk_in disk_of s) (sym same)) left)
+  cut-call (Commands c) is image left = by_working (Commands c) tt is image left
+  cut-call Refills is image left = by_working Refills tt is image left
+  cut-call Rests is image left = by_working Rests tt is image left
+  cut-call (Submits c) is image left = by_resting (Submits c) tt is image left
+  cut-call Advances is image left = by_working Advances tt is image left
+  cut-call (Protects plain) is image left = by_resting (Protects plain) tt is image left
+  cut-call (Receives frame) is image left = by_resting (Receives frame) tt is image left

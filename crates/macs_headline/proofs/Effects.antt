@@ -1,6 +1,5 @@
 -- What a call does to the part of the state that the laws speak of.
-use Rattle.std.proofs.Common.{◌≡◌, ◌≤◌, ◌<◌, ◌+◌, inl, inr, ℕ, ap, sym, ◌∙◌, refl, subst, List, ◌∷◌, true, Result, Ok}
-use Rattle.std.proofs.Common.{Err}
+use Rattle.std.proofs.Common.{◌≡◌, ◌≤◌, ◌<◌, ◌+◌, inl, inr, ℕ, ap, sym, ◌∙◌, refl, subst, List, ◌∷◌, true, Ok}
 use Rattle.std.specs.Prelude.{Option, Some, None, IsSomeAnd}
 use Rattle.std.specs.Option.{option_and_then}
 use Rattle.std.proofs.lemmas.Bool.{cases_lt}
@@ -15,28 +14,10 @@ use Rattle.macs_config.specs.declared.command.Command.{Command}
 use Rattle.macs_txsc.specs.Transmit.{Outgoing, TxSide, outgoing_at, outgoing_with}
 use Rattle.macs_rxsc.specs.Receive.{Arrival, Arrives, Numbers, RxSide, delivery_kind, numbers_after_delivery}
 use Rattle.macs_rxsc.specs.Receive.{numbers_after_hold, numbers_of}
-use Rattle.macs_rxsc.specs.declared.verdict.Verdict.{Verdict}
-use Rattle.macs_endpoint.specs.declared.fault.CommandFault.{CommandFault}
-use Rattle.macs_endpoint.specs.declared.fault.CommandFault.TheVariants as ran
-use Rattle.macs_endpoint.specs.declared.fault.ProtectFault.{ProtectFault}
-use Rattle.macs_endpoint.specs.declared.fault.ProtectFault.TheVariants as protect
-use Rattle.macs_endpoint.specs.declared.fault.RefillFault.{RefillFault}
-use Rattle.macs_endpoint.specs.declared.fault.RefillFault.TheVariants as refill
-use Rattle.macs_endpoint.specs.declared.fault.StepFault.{StepFault}
-use Rattle.macs_endpoint.specs.declared.fault.StepFault.TheVariants as advance
-use Rattle.macs_endpoint.specs.declared.fault.Stopped.{Stopped}
-use Rattle.macs_endpoint.specs.declared.fault.SubmitFault.{SubmitFault}
-use Rattle.macs_endpoint.specs.declared.fault.SubmitFault.TheVariants as submit
-use Rattle.macs_endpoint.specs.declared.progress.Step.{Step as Progress}
-use Rattle.macs_endpoint.specs.declared.progress.Step.TheVariants.{Done, Worked}
-use Rattle.macs_endpoint.specs.declared.queue.Waiting.{Waiting}
-use Rattle.macs_endpoint.specs.State.{Advanced, AdvancedLong, Advances, Call, Commands, Delivery, Protected, Protects}
-use Rattle.macs_endpoint.specs.State.{Ran, Received, Receives, Refilled, Refills, RefusedLong, Reply, State, Submits}
-use Rattle.macs_endpoint.specs.State.{Submitted, Use, rx_side, tx_side}
-use Rattle.macs_endpoint.specs.State.{Rested, Rests}
-use Rattle.macs_endpoint.specs.Step.{as_refill}
-use Rattle.macs_endpoint.specs.Step.{AdvanceStep, CommandStep, Ends, ProtectStep, ReceiveStep, RefillStep, RunningStep}
-use Rattle.macs_endpoint.specs.Step.{Step, SubmitStep, TakesUp, next_after, numbers_after}
+use Rattle.macs_endpoint.specs.State.{Call, Delivery, Reply, State, Use, rx_side, tx_side}
+use Rattle.macs_endpoint.specs.Step.{Step, TakesUp, next_after, numbers_after}
+use Rattle.macs_headline.proofs.Changes.{Begins, BeginsAndStops, Breaks, Change, Completes, Delivers, Drops, HoldsBack}
+use Rattle.macs_headline.proofs.Changes.{Obeys, Queues, Sends, Stays, Stops, change-of}
 use Rattle.macs_headline.proofs.Places.{put_rx}
 
 -- the state but for its edition, for whether it is stopped, and for what is under way or waits
@@ -144,84 +125,31 @@ arrives-in-time side frame a there on =
 
 -- ---- calls
 
-by_command : (old : State) (c : Command) (result : Result (Unit {0}) CommandFault) (new : State)
-    → CommandStep old c result new
-    → Effect old.edition (core old) (core new)
-by_command old c (Ok done) new (none, makes) = Commanded c makes.0 makes.1 (ap core makes.2)
-by_command old c (Err ran.Stopped) new h = absurd h
-by_command old c (Err ran.Busy) new (some, is) = NoEffect (ap core is)
-by_command old c (Err fault) new h = NoEffect (ap core h.2)
-
-by_refill : (old : State) (result : Result (Unit {0}) RefillFault) (new : State) → RefillStep old result new
-    → Effect old.edition (core old) (core new)
-by_refill old (Ok done) new (none, is) = NoEffect (ap core is)
-by_refill old (Err refill.Stopped) new h = absurd h
-by_refill old (Err fault) new (none, is) = NoEffect (ap core is)
-
-by_submit : (old : State) (c : Command) (result : Result ℕ SubmitFault) (new : State) → SubmitStep old c result new
-    → Effect old.edition (core old) (core new)
-by_submit old c (Ok ticket) new (few, left, is_ticket, is) = NoEffect (ap core is)
-by_submit old c (Err submit.QueueFull) new (many, is) = NoEffect (ap core is)
-by_submit old c (Err submit.TicketsSpent) new (few, spent, is) = NoEffect (ap core is)
-by_submit old c (Err submit.Stopped) new h = absurd h
-
 taken_up : (old new : State) → TakesUp old new → core new ≡ core old
 taken_up old new (first, rest, waiting, idle, accepts, is) = ap core is
 
-by_end : (old : State) (first : Waiting) (rest : List Waiting) (result : Result (Unit {0}) CommandFault) (new : State)
-    → Ends old first rest result new
+by_change : (old : State) (call : Call) (reply : Reply) (new : State) → Change old call reply new
     → Effect old.edition (core old) (core new)
-by_end old first rest (Ok done) new makes = Commanded first.command makes.0 makes.1 (ap core makes.2)
-by_end old first rest (Err (ran.Refused refusal)) new (idle, why, is) = NoEffect (ap core is)
-by_end old first rest (Err ran.GenerationsSpent) new (idle, accepts, is) = NoEffect (ap core is)
-by_end old first rest (Err fault) new h = absurd h
-
-by_advance : (old : State) (result : Result Progress StepFault) (new : State) → AdvanceStep old result new
-    → Effect old.edition (core old) (core new)
-by_advance old (Ok Worked) new (inl is) = NoEffect (ap core is)
-by_advance old (Ok Worked) new (inr takes) = NoEffect (taken_up old new takes)
-by_advance old (Ok (Done ticket result)) new (first, rest, waiting, is_ticket, ends) =
-    by_end old first rest result new ends
-by_advance old (Err advance.Disk) new (inl is) = NoEffect (ap core is)
-by_advance old (Err advance.Disk) new (inr (mid, takes, is)) = NoEffect (ap core is ∙ taken_up old mid takes)
-by_advance old (Err advance.Stopped) new h = absurd h
-by_advance old result new is = NoEffect (ap core is)
-
-by_protect : (old : State) (plain : List ℕ) (result : Result ℕ ProtectFault) (out : List ℕ) (new : State)
-    → ProtectStep old plain result out new
-    → Effect old.edition (core old) (core new)
-by_protect old plain (Ok pn) out new (none, (o, is_o, is_pn, is_out, is)) =
+by_change old call reply new (Stays is) = NoEffect (ap core is)
+by_change old call reply new (Stops is) = NoEffect (ap core is)
+by_change old call reply new (Obeys c asked none makes) = Commanded c makes.0 makes.1 (ap core makes.2)
+by_change old call reply new (Breaks c asked told none accepts is) = NoEffect (ap core is)
+by_change old call reply new (Queues c asked is) = NoEffect (ap core is)
+by_change old call reply new (Begins asked takes) = NoEffect (taken_up old new takes)
+by_change old call reply new (BeginsAndStops asked mid takes is) = NoEffect (ap core is ∙ taken_up old mid takes)
+by_change old call reply new (Completes asked first rest waiting makes) =
+    Commanded first.command makes.0 makes.1 (ap core makes.2)
+by_change old call reply new (Drops asked first rest waiting is) = NoEffect (ap core is)
+by_change old call reply new (Sends plain asked pn out (none, (o, is_o, is_pn, is_out, is))) =
     let there = outgoing_is (tx_side old) old.config.encoding o is_o in
     Sent o.an o.sa o.pn there.sa_is there.next_is (ap core is)
-by_protect old plain (Err (protect.Tx fault)) out new (why, empty, is) = NoEffect (ap core is)
-by_protect old plain (Err protect.Stopped) out new h = absurd h
-
-by_receive : (old : State) (frame : List ℕ) (result : Result Verdict Stopped) (out : List ℕ) (new : State)
-    → ReceiveStep old frame result out new
-    → Effect old.edition (core old) (core new)
-by_receive old frame (Ok verdict) out new (inl (step, is_first, is_verdict, is_out, is)) = NoEffect (ap core is)
-by_receive old frame (Ok verdict) out new (inr (a, there, inl (is_verdict, above, is_out, is))) =
+by_change old call reply new (HoldsBack frame asked a there is) =
     Held a.sci a.an a.numbers a.pn there.are_numbers (ap core is)
-by_receive old frame (Ok verdict) out new (inr (a, there, inr (is_verdict, is_out, is))) =
+by_change old call reply new (Delivers frame asked a there is) =
     Given a.sci a.an a.sa a.numbers a.pn there.is_association there.are_numbers
     (arrives-in-time (rx_side old) frame a there) (ap core is)
-by_receive old frame (Err stopped) out new h = absurd h
-
-by_call : (old : State) (call : Call) (reply : Reply) (new : State) → RunningStep old call reply new
-    → Effect old.edition (core old) (core new)
-by_call old (Commands c) (Ran result) new h = by_command old c result new h
-by_call old Refills (Refilled result) new h = by_refill old result new h
-by_call old Rests (Rested result) new h = by_refill old (as_refill result) new h
-by_call old (Submits c) (Submitted result) new h = by_submit old c result new h
-by_call old Advances (Advanced result) new h = by_advance old result new h
-by_call old (Protects plain) (Protected result out) new h = by_protect old plain result out new h
-by_call old (Receives frame) (Received result out) new h = by_receive old frame result out new h
-by_call old (Commands c) RefusedLong new (none, why, is) = NoEffect (ap core is)
-by_call old Advances (AdvancedLong ticket) new (first, rest, waiting, is_ticket, (idle, why, is)) =
-    NoEffect (ap core is)
-by_call old call reply new h = absurd h
 
 pub effect-of : (old : State) (call : Call) (reply : Reply) (new : State) → Step old call reply new
     → Effect old.edition (core old) (core new)
 effect-of old call reply new (inl (stopped, answer, is)) = NoEffect (ap core is)
-effect-of old call reply new (inr (running, h)) = by_call old call reply new h
+effect-of old call reply new (inr (running, h)) = by_change old call reply new (change-of old new call reply h)

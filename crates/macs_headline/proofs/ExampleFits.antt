@@ -17,7 +17,7 @@ use Rattle.macs_headline.proofs.ExampleImages.{served_standing}
 use Rattle.macs_headline.proofs.ExampleStates.{after_delay, after_delivery, after_hold, before_frame, first_end}
 use Rattle.macs_headline.proofs.ExampleStates.{first_followed, fourth_end, fourth_followed, s0, s12, s13, s14}
 use Rattle.macs_headline.proofs.ExampleStates.{second_end, t0, t2, third_end, u0, v0}
-use Rattle.macs_headline.proofs.Formats.{new-fits}
+use Rattle.macs_headline.proofs.Formats.{new-fits, resumed, up-to-itself}
 use Rattle.macs_headline.proofs.Places.{cases_place, put_rx, put_rx-that}
 
 pub fits-new : Fits this_edition example_sectors new_image (formatted_state this_edition example_identity)
@@ -63,26 +63,16 @@ fits-served = record {
     first_followed,
     refl,
     (served_config, refl, refl),
-    record {
-      edition = record { channels = omega arith; long_keys = λ is. is; format_two = λ is. is };
-      identity = refl;
-      config = refl;
-      next = λ an. tx_first (an == 0);
-      numbers = rx_all first_followed.numbers t0.numbers (9, refl, omega arith, omega arith) (λ sci an apart. (
-        ap (option_map (numbers_under_window 3))
-            (away s14.numbers (Some (numbers_after_delivery 1 after_delivery 5)) sci an apart
-            ∙ away s13.numbers (Some after_delivery) sci an apart
-            ∙ away s12.numbers (Some after_hold) sci an apart
-            ∙ ap (option_map (numbers_under_window 1)) (away s0.numbers (Some before_frame) sci an apart)),
-        ap (option_map first_numbers) (away (put_rx no_ceilings.rx peer_sci 0 (Some 1)) (Some 9) sci an apart
-            ∙ away no_ceilings.rx (Some 1) sci an apart),
-      ));
-      logs = refl;
-      running = refl;
-      idle = refl;
-      waiting = refl;
-      tickets = refl;
-    },
+    resumed first_followed served_standing (up-to-itself this_edition) refl refl (λ an. tx_first (an == 0))
+        (rx_all first_followed.numbers t0.numbers (9, refl, omega arith, omega arith) (λ sci an apart. (
+          ap (option_map (numbers_under_window 3))
+              (away s14.numbers (Some (numbers_after_delivery 1 after_delivery 5)) sci an apart
+              ∙ away s13.numbers (Some after_delivery) sci an apart
+              ∙ away s12.numbers (Some after_hold) sci an apart
+              ∙ ap (option_map (numbers_under_window 1)) (away s0.numbers (Some before_frame) sci an apart)),
+          ap (option_map first_numbers) (away (put_rx no_ceilings.rx peer_sci 0 (Some 1)) (Some 9) sci an apart
+              ∙ away no_ceilings.rx (Some 1) sci an apart),
+        ))),
   );
 }
 
@@ -98,25 +88,15 @@ pub fits-cut : Fits this_edition example_sectors (cut_image 2) second_end
 fits-cut = record {
   found = full_standing;
   is_found = cut-is;
-  restart = inl (record {
-    edition = record { channels = omega arith; long_keys = λ is. is; format_two = λ is. is };
-    identity = refl;
-    config = refl;
-    next = λ an. tx_second (an == 0);
-    numbers = rx_all second_end.numbers u0.numbers (9, refl, omega arith, omega arith) (λ sci an apart. (
-      ap (option_map (numbers_under_window 3))
-          (away t2.numbers (Some after_delay) sci an apart
-          ∙ ap (option_map (numbers_under_window 3)) (ap (option_map first_numbers)
-          (away (put_rx no_ceilings.rx peer_sci 0 (Some 1)) (Some 9) sci an apart
-          ∙ away no_ceilings.rx (Some 1) sci an apart))),
-      ap (option_map first_numbers) (away no_ceilings.rx (Some 9) sci an apart),
-    ));
-    logs = refl;
-    running = refl;
-    idle = refl;
-    waiting = refl;
-    tickets = refl;
-  });
+  restart = inl (resumed second_end full_standing (up-to-itself this_edition) refl refl (λ an. tx_second (an == 0))
+      (rx_all second_end.numbers u0.numbers (9, refl, omega arith, omega arith) (λ sci an apart. (
+        ap (option_map (numbers_under_window 3))
+            (away t2.numbers (Some after_delay) sci an apart
+            ∙ ap (option_map (numbers_under_window 3)) (ap (option_map first_numbers)
+            (away (put_rx no_ceilings.rx peer_sci 0 (Some 1)) (Some 9) sci an apart
+            ∙ away no_ceilings.rx (Some 1) sci an apart))),
+        ap (option_map first_numbers) (away no_ceilings.rx (Some 9) sci an apart),
+      ))));
 }
 
 -- ---- after the third life
@@ -130,21 +110,11 @@ pub fits-last : Fits this_edition example_sectors last_image third_end
 fits-last = record {
   found = last_standing this_edition;
   is_found = last-is last_image last-found;
-  restart = inl (record {
-    edition = record { channels = omega arith; long_keys = λ is. is; format_two = λ is. is };
-    identity = refl;
-    config = refl;
-    next = λ an. tx_third (an == 0);
-    numbers = rx_all third_end.numbers v0.numbers refl (λ sci an apart. (
-      away u0.numbers None sci an apart ∙ ap (option_map first_numbers) (away no_ceilings.rx (Some 9) sci an apart),
-      refl,
-    ));
-    logs = refl;
-    running = refl;
-    idle = refl;
-    waiting = refl;
-    tickets = refl;
-  });
+  restart = inl (resumed third_end (last_standing this_edition) (up-to-itself this_edition) refl refl (λ an. tx_third (an == 0))
+      (rx_all third_end.numbers v0.numbers refl (λ sci an apart. (
+        away u0.numbers None sci an apart ∙ ap (option_map first_numbers) (away no_ceilings.rx (Some 9) sci an apart),
+        refl,
+      ))));
 }
 
 -- ---- after the fourth life
@@ -159,18 +129,8 @@ pub fits-killed : (image : Image) → HasEitherJournal last_content ended_conten
 fits-killed image (inl found) = record {
   found = last_standing this_edition;
   is_found = last-is image found;
-  restart = inl (record {
-    edition = record { channels = omega arith; long_keys = λ is. is; format_two = λ is. is };
-    identity = refl;
-    config = refl;
-    next = λ an. tx_fourth (an == 0);
-    numbers = λ sci an. refl;
-    logs = refl;
-    running = refl;
-    idle = refl;
-    waiting = refl;
-    tickets = refl;
-  });
+  restart = inl (resumed fourth_end (last_standing this_edition) (up-to-itself this_edition) refl refl (λ an. tx_fourth (an == 0))
+      (λ sci an. refl));
 }
 fits-killed image (inr found) = record {
   found = checked_standing this_edition;
@@ -180,17 +140,7 @@ fits-killed image (inr found) = record {
     fourth_followed,
     refl,
     ((checked_standing this_edition).config, refl, refl),
-    record {
-      edition = record { channels = omega arith; long_keys = λ is. is; format_two = λ is. is };
-      identity = refl;
-      config = refl;
-      next = λ an. tx_fourth (an == 0);
-      numbers = λ sci an. refl;
-      logs = refl;
-      running = refl;
-      idle = refl;
-      waiting = refl;
-      tickets = refl;
-    },
+    resumed fourth_followed (checked_standing this_edition) (up-to-itself this_edition) refl refl (λ an. tx_fourth (an == 0))
+        (λ sci an. refl),
   );
 }

@@ -65,6 +65,7 @@ use Rattle.macs_headline.specs.Images.{blank_image, image_with_area, image_with_
 use Rattle.macs_headline.specs.Images.{image_with_record, image_with_records}
 use Rattle.macs_headline.proofs.Built.{area-other, closed-gate, opened-found, opened-other, records-found}
 use Rattle.macs_headline.proofs.Built.{records-other}
+use Rattle.macs_headline.proofs.Formats.{resumed, up-to-itself}
 use Rattle.macs_headline.proofs.Later.{later-found, meaning-later, meaning-more, written-found}
 use Rattle.macs_headline.proofs.Chains.{settled-disks}
 use Rattle.macs_headline.proofs.ExampleCuts.{head-sector, record_sector, torn_kept, torn_whole}
@@ -430,18 +431,8 @@ old_fits : (sectors : ℕ) → least_sectors ≤ sectors → Fits first_edition 
 old_fits sectors large = record {
   found = new_standing first_edition example_identity;
   is_found = (large, record { content = old_content; found = old_found; stands = old_meaning first_edition });
-  restart = inl (record {
-    edition = record { channels = omega arith; long_keys = λ is. is; format_two = λ is. is };
-    identity = refl;
-    config = refl;
-    next = λ an. refl;
-    numbers = λ sci an. refl;
-    logs = refl;
-    running = refl;
-    idle = refl;
-    waiting = refl;
-    tickets = refl;
-  });
+  restart = inl (resumed made (new_standing first_edition example_identity) (up-to-itself first_edition) refl refl
+      (λ an. refl) (λ sci an. refl));
 }
 
 -- the endpoint's own association is installed and used, and a frame goes out
@@ -502,30 +493,17 @@ tx_old false = refl
 -- an edition resumes what that life left
 old_resumed : (edition : Edition) → IsUpTo first_edition edition
     → Resumes old_end (opened_state (used_standing edition) old_end.logs)
-old_resumed edition up_to = record {
-  edition = up_to;
-  identity = refl;
-  config = refl;
-  next = λ an. tx_old (an == 0);
-  numbers = λ sci an. refl;
-  logs = refl;
-  running = refl;
-  idle = refl;
-  waiting = refl;
-  tickets = refl;
-}
+old_resumed edition up_to = resumed old_end (used_standing edition) up_to refl refl (λ an. tx_old (an == 0))
+    (λ sci an. refl)
 
 up_to_this : IsUpTo first_edition this_edition
 up_to_this = record { channels = omega arith; long_keys = λ is. refl; format_two = λ is. refl }
-
-up_to_itself : (edition : Edition) → IsUpTo edition edition
-up_to_itself edition = record { channels = omega arith; long_keys = λ is. is; format_two = λ is. is }
 
 used_fits : (sectors : ℕ) → least_sectors ≤ sectors → Fits first_edition sectors used_image old_end
 used_fits sectors large = record {
   found = used_standing first_edition;
   is_found = (large, record { content = used_content; found = used_found; stands = used_first });
-  restart = inl (old_resumed first_edition (up_to_itself first_edition));
+  restart = inl (old_resumed first_edition (up-to-itself first_edition));
 }
 
 old_history : (disk : Disk) → IsOldDisk disk → HasHistory first_edition disk old_lives
@@ -733,23 +711,13 @@ fits_long : Fits this_edition example_sectors long_image long_end
 fits_long = record {
   found = long_standing;
   is_found = long_is;
-  restart = inl (record {
-    edition = up_to_itself this_edition;
-    identity = refl;
-    config = refl;
-    next = λ an. tx_long (an == 0);
-    numbers = rx_all long_end.numbers b0.numbers (9, refl, omega arith, omega arith) (λ sci an apart. (
-      away a4.numbers (Some after_delivery) sci an apart ∙ away a3.numbers (Some after_hold) sci an apart
-          ∙ away a2.numbers (Some before_frame) sci an apart,
-      ap (option_map first_numbers) (away (put_rx no_ceilings.rx peer_sci 0 (Some 1)) (Some 9) sci an apart
-          ∙ away no_ceilings.rx (Some 1) sci an apart),
-    ));
-    logs = refl;
-    running = refl;
-    idle = refl;
-    waiting = refl;
-    tickets = refl;
-  });
+  restart = inl (resumed long_end long_standing (up-to-itself this_edition) refl refl (λ an. tx_long (an == 0))
+      (rx_all long_end.numbers b0.numbers (9, refl, omega arith, omega arith) (λ sci an apart. (
+        away a4.numbers (Some after_delivery) sci an apart ∙ away a3.numbers (Some after_hold) sci an apart
+            ∙ away a2.numbers (Some before_frame) sci an apart,
+        ap (option_map first_numbers) (away (put_rx no_ceilings.rx peer_sci 0 (Some 1)) (Some 9) sci an apart
+            ∙ away no_ceilings.rx (Some 1) sci an apart),
+      ))));
 }
 
 tx_filled : (own : Bool)
@@ -765,22 +733,12 @@ fits_again : Fits this_edition example_sectors again_image filled_end
 fits_again = record {
   found = filled_standing;
   is_found = again_is;
-  restart = inl (record {
-    edition = up_to_itself this_edition;
-    identity = refl;
-    config = refl;
-    next = λ an. tx_filled (an == 0);
-    numbers = rx_all filled_end.numbers c0.numbers (9, refl, omega arith, omega arith) (λ sci an apart. (
-      ap (option_map first_numbers) (away (put_rx no_ceilings.rx peer_sci 0 (Some 1)) (Some 9) sci an apart
-          ∙ away no_ceilings.rx (Some 1) sci an apart),
-      ap (option_map first_numbers) (away no_ceilings.rx (Some 9) sci an apart),
-    ));
-    logs = refl;
-    running = refl;
-    idle = refl;
-    waiting = refl;
-    tickets = refl;
-  });
+  restart = inl (resumed filled_end filled_standing (up-to-itself this_edition) refl refl (λ an. tx_filled (an == 0))
+      (rx_all filled_end.numbers c0.numbers (9, refl, omega arith, omega arith) (λ sci an apart. (
+        ap (option_map first_numbers) (away (put_rx no_ceilings.rx peer_sci 0 (Some 1)) (Some 9) sci an apart
+            ∙ away no_ceilings.rx (Some 1) sci an apart),
+        ap (option_map first_numbers) (away no_ceilings.rx (Some 9) sci an apart),
+      ))));
 }
 
 module _ (peer : All (λ octet. octet < 2 ^ 8) (peer_frame 5)) where

@@ -1,7 +1,8 @@
 -- A `format`, answered or cut short, is a life.
 use Rattle.std.proofs.Common.{◌≡◌, ◌≤◌, inl, inr, ℕ, zero, suc, false, List, [], ◌∷◌, Result, Ok, Err, is_ok, refl, ◌∙◌}
 use Rattle.std.proofs.Common.{subst, arith}
-use Rattle.macs_config.specs.Config.{this_edition}
+use Rattle.std.specs.Option.{option_map}
+use Rattle.macs_config.specs.Config.{Edition, IsUpTo, this_edition}
 use Rattle.macs_config.specs.Identity.{Identity}
 use Rattle.macs_disk.specs.Disk.{Disk, IsHonest, LeftSince, now}
 use Rattle.macs_disk.specs.States.{Image, IsImage, IsSound}
@@ -12,10 +13,11 @@ use Rattle.macs_journal.specs.Found.{IsGateOpen}
 use Rattle.macs_journal.specs.Work.{IsSpared, MayHold}
 use Rattle.macs_journal.specs.declared.fault.JournalFault.{JournalFault}
 use Rattle.macs_journal.specs.declared.fault.JournalFault.TheVariants.{NotFormatted}
+use Rattle.macs_rxsc.specs.Receive.{first_numbers}
 use Rattle.macs_store.specs.Found.{StandingIs}
 use Rattle.macs_store.specs.Standing.{Standing, new_standing}
 use Rattle.macs_endpoint.specs.Formatting.{FormatLeaves, IsFormat}
-use Rattle.macs_endpoint.specs.Restart.{Fits}
+use Rattle.macs_endpoint.specs.Restart.{Fits, Resumes, RxRises, TxRises, opened_state}
 use Rattle.macs_endpoint.specs.State.{State}
 use Rattle.macs_headline.specs.Deeds.{IsPassedOn}
 use Rattle.macs_headline.specs.History.{Blank, FitsPast, Formats, Formatted, Past, formatted_state}
@@ -25,6 +27,28 @@ use Rattle.macs_headline.proofs.Losses.{IsCovered, LeadTo, covered-passed, cover
 
 -- ---- one image
 
+pub up-to-itself : (edition : Edition) → IsUpTo edition edition
+up-to-itself edition = record { channels = omega arith; long_keys = λ is. is; format_two = λ is. is }
+
+-- what is found resumes a state of the same identity and configuration, if numbers rise to the ceilings
+pub resumed : (old : State) (found : Standing) → IsUpTo old.edition found.edition → found.identity ≡ old.identity
+    → found.config ≡ old.config
+    → ((an : ℕ) → TxRises old.identity.tx_block (old.next an) (found.ceilings.tx an))
+    → ((sci : List ℕ) (an : ℕ) → RxRises old.identity.rx_block (old.numbers sci an)
+    (option_map first_numbers (found.ceilings.rx sci an))) → Resumes old (opened_state found old.logs)
+resumed old found edition identity config next numbers = record {
+  edition = edition;
+  identity = identity;
+  config = config;
+  next = next;
+  numbers = numbers;
+  logs = refl;
+  running = refl;
+  idle = refl;
+  waiting = refl;
+  tickets = refl;
+}
+
 -- one that stands for a new endpoint fits its state
 pub new-fits : (sectors : ℕ) (image : Image) (identity : Identity)
     → StandingIs this_edition sectors image (Ok (new_standing this_edition identity))
@@ -32,18 +56,8 @@ pub new-fits : (sectors : ℕ) (image : Image) (identity : Identity)
 new-fits sectors image identity is = record {
   found = new_standing this_edition identity;
   is_found = is;
-  restart = inl (record {
-    edition = record { channels = omega arith; long_keys = λ is. is; format_two = λ is. is };
-    identity = refl;
-    config = refl;
-    next = λ an. refl;
-    numbers = λ sci an. refl;
-    logs = refl;
-    running = refl;
-    idle = refl;
-    waiting = refl;
-    tickets = refl;
-  });
+  restart = inl (resumed (formatted_state this_edition identity) (new_standing this_edition identity)
+      (up-to-itself this_edition) refl refl (λ an. refl) (λ sci an. refl));
 }
 
 blank_more : (sectors : ℕ) (identities : List Identity) (identity : Identity) (image : Image)

@@ -1,36 +1,22 @@
 -- What is under way at the end of a life was given to a call of it.
 use Rattle.std.proofs.Common.{◌≡◌, ◌⊎◌, ◌+◌, ◌&&◌, inl, inr, ℕ, Bool, true, false, cond, not, is_ok, List, [], ◌∷◌}
-use Rattle.std.proofs.Common.{Option, Some, None, Result, Ok, Err, refl, sym, ◌∙◌, ap, subst}
+use Rattle.std.proofs.Common.{Option, Some, None, Err, refl, sym, ◌∙◌, ap, subst}
 use Rattle.std.specs.Prelude.{Contains}
 use Rattle.std.proofs.lemmas.Bool.{false≢true}
 use Rattle.macs_config.specs.Apply.{apply}
 use Rattle.macs_config.specs.declared.command.Command.{Command}
-use Rattle.macs_rxsc.specs.declared.verdict.Verdict.{Verdict}
 use Rattle.macs_endpoint.specs.Queue.{first_command, with_waiting}
-use Rattle.macs_endpoint.specs.declared.fault.CommandFault.{CommandFault}
 use Rattle.macs_endpoint.specs.declared.fault.CommandFault.TheVariants as ran
-use Rattle.macs_endpoint.specs.declared.fault.ProtectFault.{ProtectFault}
-use Rattle.macs_endpoint.specs.declared.fault.ProtectFault.TheVariants as protect
-use Rattle.macs_endpoint.specs.declared.fault.RefillFault.{RefillFault}
-use Rattle.macs_endpoint.specs.declared.fault.RefillFault.TheVariants as refill
-use Rattle.macs_endpoint.specs.declared.fault.StepFault.{StepFault}
-use Rattle.macs_endpoint.specs.declared.fault.StepFault.TheVariants as advance
-use Rattle.macs_endpoint.specs.declared.fault.Stopped.{Stopped}
-use Rattle.macs_endpoint.specs.declared.fault.SubmitFault.{SubmitFault}
-use Rattle.macs_endpoint.specs.declared.fault.SubmitFault.TheVariants as submit
-use Rattle.macs_endpoint.specs.declared.progress.Step.{Step as Progress}
-use Rattle.macs_endpoint.specs.declared.progress.Step.TheVariants.{Done, Worked}
 use Rattle.macs_endpoint.specs.declared.queue.Waiting.{Waiting}
 use Rattle.macs_endpoint.specs.Restart.{opened_state, state_taking_alone, state_taking_first}
-use Rattle.macs_endpoint.specs.State.{Advanced, AdvancedLong, Advances, Call, Commands, Protected, Protects, Ran}
-use Rattle.macs_endpoint.specs.State.{Received, Receives, Refilled, Refills, RefusedLong, Reply, State, Submits}
-use Rattle.macs_endpoint.specs.State.{Submitted, state_with_under_way}
-use Rattle.macs_endpoint.specs.State.{Rested, Rests}
-use Rattle.macs_endpoint.specs.Step.{as_refill}
-use Rattle.macs_endpoint.specs.Step.{AdvanceStep, CommandStep, Ends, Exchange, ProtectStep, ReceiveStep, RefillStep}
-use Rattle.macs_endpoint.specs.Step.{RunningStep, Step, Steps, SubmitStep, TakesUp}
+use Rattle.macs_endpoint.specs.State.{Advances, Call, Commands, Protects, Ran, Receives, Refills, Reply, State, Submits}
+use Rattle.macs_endpoint.specs.State.{state_with_under_way}
+use Rattle.macs_endpoint.specs.State.{Rests}
+use Rattle.macs_endpoint.specs.Step.{Exchange, Step, Steps, TakesUp}
 use Rattle.macs_headline.specs.Commands.{UnderWayWasGiven, WasHandedIn, failing, waiting_at_end}
 use Rattle.macs_headline.specs.History.{logs_of, state_at_end}
+use Rattle.macs_headline.proofs.Changes.{Begins, BeginsAndStops, Breaks, Change, Completes, Delivers, Drops, HoldsBack}
+use Rattle.macs_headline.proofs.Changes.{Obeys, Queues, Sends, Stays, Stops, change-of}
 use Rattle.macs_headline.proofs.Commands.{waits-from}
 use Rattle.macs_headline.proofs.Ledger.{some_one}
 use Rattle.macs_headline.proofs.Lists.{contains-first, contains-later}
@@ -82,105 +68,47 @@ module _ (Failed : Command → Type 0) where
   IsTold (Commands c) (Ran (Err ran.Disk)) = Failed c
   IsTold call reply = Unit {0}
 
-  by_command : (old : State) (c : Command) (result : Result (Unit {0}) CommandFault) (new : State)
-      → IsTold (Commands c) (Ran result)
-      → CommandStep old c result new → IsHeld old → IsHeld new
-  by_command old c (Ok done) new told (none, makes) held = none_held new (ap (λ (s : State). s.under_way) makes.2)
-  by_command old c (Err ran.Stopped) new told h held = absurd h
-  by_command old c (Err ran.Disk) new told (none, accepts, is) held =
+  by_change : (old : State) (call : Call) (reply : Reply) (new : State) → IsTold call reply → old.stopped ≡ false
+      → Change old call reply new → IsHeld old → IsHeld new
+  by_change old call reply new told running (Stays is) held = same_held old new is held
+  by_change old call reply new told running (Stops is) held =
+      alike old new running (ap (λ (s : State). s.under_way) is) (ap (λ (s : State). s.waiting) is) held
+  by_change old call reply new told running (Obeys c asked none makes) held =
+      none_held new (ap (λ (s : State). s.under_way) makes.2)
+  by_change old call reply new told running (Breaks c asked failed none accepts is) held =
+      let known : Failed c = subst (λ (answer : Reply). IsTold (Commands c) answer) failed
+      (subst (λ (call : Call). IsTold call reply) asked told) in
       λ d hand. inr (
         ap (λ (s : State). s.stopped) is,
         ap (λ (s : State). s.waiting) is ∙ none,
-        subst Failed (some_one new.under_way c d (ap (λ (s : State). s.under_way) is) hand) told,
+        subst Failed (some_one new.under_way c d (ap (λ (s : State). s.under_way) is) hand) known,
       )
-  by_command old c (Err ran.Busy) new told (some, is) held = same_held old new is held
-  by_command old c (Err fault) new told h held = same_held old new h.2 held
-
-  by_refill : (old : State) (result : Result (Unit {0}) RefillFault) (new : State) → old.stopped ≡ false
-      → RefillStep old result new → IsHeld old → IsHeld new
-  by_refill old (Ok done) new running (none, is) held = same_held old new is held
-  by_refill old (Err refill.Stopped) new running h held = absurd h
-  by_refill old (Err refill.Disk) new running (none, is) held =
-      alike old new running (ap (λ (s : State). s.under_way) is) (ap (λ (s : State). s.waiting) is) held
-  by_refill old (Err fault) new running (none, is) held = same_held old new is held
-
-  by_submit : (old : State) (c : Command) (result : Result ℕ SubmitFault) (new : State) → old.stopped ≡ false
-      → SubmitStep old c result new
-      → IsHeld old → IsHeld new
-  by_submit old c (Ok ticket) new running (few, left, is_ticket, is) held =
+  by_change old call reply new told running (Queues c asked is) held =
       λ d hand. elim (held d (sym (ap (λ (s : State). s.under_way) is) ∙ hand)) [
         | inl first ↦ inl
             (ap (λ (s : State). first_command s.waiting) is ∙ first_on old.waiting (old.tickets + 1) c d first)
         | inr stopped ↦ absurd (false≢true (sym running ∙ stopped.0))
       ]
-  by_submit old c (Err submit.QueueFull) new running (many, is) held = same_held old new is held
-  by_submit old c (Err submit.TicketsSpent) new running (few, spent, is) held = same_held old new is held
-  by_submit old c (Err submit.Stopped) new running h held = absurd h
-
-  by_end : (old : State) (first : Waiting) (rest : List Waiting) (result : Result (Unit {0}) CommandFault) (new : State)
-      → Ends old first rest result new
-      → IsHeld new
-  by_end old first rest (Ok done) new makes = none_held new (ap (λ (s : State). s.under_way) makes.2)
-  by_end old first rest (Err (ran.Refused refusal)) new (idle, why, is) =
-      none_held new (ap (λ (s : State). s.under_way) is)
-  by_end old first rest (Err ran.GenerationsSpent) new (idle, accepts, is) =
-      none_held new (ap (λ (s : State). s.under_way) is)
-  by_end old first rest (Err fault) new h = absurd h
-
-  by_advance : (old : State) (result : Result Progress StepFault) (new : State) → old.stopped ≡ false
-      → AdvanceStep old result new → IsHeld old → IsHeld new
-  by_advance old (Ok Worked) new running (inl is) held = same_held old new is held
-  by_advance old (Ok Worked) new running (inr takes) held = first_held new (taken_up old new takes)
-  by_advance old (Ok (Done ticket result)) new running (first, rest, waiting, is_ticket, ends) held =
-      by_end old first rest result new ends
-  by_advance old (Err advance.Disk) new running (inl is) held =
-      alike old new running (ap (λ (s : State). s.under_way) is) (ap (λ (s : State). s.waiting) is) held
-  by_advance old (Err advance.Disk) new running (inr (mid, takes, is)) held =
+  by_change old call reply new told running (Begins asked takes) held = first_held new (taken_up old new takes)
+  by_change old call reply new told running (BeginsAndStops asked mid takes is) held =
       first_held new (ap (λ (s : State). first_command s.waiting) is ∙ taken_up old mid takes
       ∙ sym (ap (λ (s : State). s.under_way) is))
-  by_advance old (Err advance.Stopped) new running h held = absurd h
-  by_advance old result new running is held = same_held old new is held
-
-  by_protect : (old : State) (plain : List ℕ) (result : Result ℕ ProtectFault) (out : List ℕ) (new : State)
-      → old.stopped ≡ false
-      → ProtectStep old plain result out new → IsHeld old → IsHeld new
-  by_protect old plain (Ok pn) out new running (none, (o, is_o, is_pn, is_out, is)) held =
-      alike old new running (ap (λ (s : State). s.under_way) is) (ap (λ (s : State). s.waiting) is) held
-  by_protect old plain (Err (protect.Tx fault)) out new running (why, empty, is) held = same_held old new is held
-  by_protect old plain (Err protect.Stopped) out new running h held = absurd h
-
-  by_receive : (old : State) (frame : List ℕ) (result : Result Verdict Stopped) (out : List ℕ) (new : State)
-      → old.stopped ≡ false
-      → ReceiveStep old frame result out new → IsHeld old → IsHeld new
-  by_receive old frame (Ok verdict) out new running (inl (step, is_first, is_verdict, is_out, is)) held =
-      same_held old new is held
-  by_receive old frame (Ok verdict) out new running (inr (a, there, inl (is_verdict, above, is_out, is))) held =
-      alike old new running (ap (λ (s : State). s.under_way) is) (ap (λ (s : State). s.waiting) is) held
-  by_receive old frame (Ok verdict) out new running (inr (a, there, inr (is_verdict, is_out, is))) held =
-      alike old new running (ap (λ (s : State). s.under_way) is) (ap (λ (s : State). s.waiting) is) held
-  by_receive old frame (Err stopped) out new running h held = absurd h
-
-  by_call : (old : State) (call : Call) (reply : Reply) (new : State) → IsTold call reply → old.stopped ≡ false
-      → RunningStep old call reply new
-      → IsHeld old → IsHeld new
-  by_call old (Commands c) (Ran result) new told running h held = by_command old c result new told h held
-  by_call old Refills (Refilled result) new told running h held = by_refill old result new running h held
-  by_call old Rests (Rested result) new told running h held = by_refill old (as_refill result) new running h held
-  by_call old (Submits c) (Submitted result) new told running h held = by_submit old c result new running h held
-  by_call old Advances (Advanced result) new told running h held = by_advance old result new running h held
-  by_call old (Protects plain) (Protected result out) new told running h held =
-      by_protect old plain result out new running h held
-  by_call old (Receives frame) (Received result out) new told running h held =
-      by_receive old frame result out new running h held
-  by_call old (Commands c) RefusedLong new told running (none, why, is) held = same_held old new is held
-  by_call old Advances (AdvancedLong ticket) new told running (first, rest, waiting, is_ticket, (idle, why, is)) held =
+  by_change old call reply new told running (Completes asked first rest waiting makes) held =
+      none_held new (ap (λ (s : State). s.under_way) makes.2)
+  by_change old call reply new told running (Drops asked first rest waiting is) held =
       none_held new (ap (λ (s : State). s.under_way) is)
-  by_call old call reply new told running h held = absurd h
+  by_change old call reply new told running (Sends plain asked pn out (none, (o, is_o, is_pn, is_out, is))) held =
+      alike old new running (ap (λ (s : State). s.under_way) is) (ap (λ (s : State). s.waiting) is) held
+  by_change old call reply new told running (HoldsBack frame asked a there is) held =
+      alike old new running (ap (λ (s : State). s.under_way) is) (ap (λ (s : State). s.waiting) is) held
+  by_change old call reply new told running (Delivers frame asked a there is) held =
+      alike old new running (ap (λ (s : State). s.under_way) is) (ap (λ (s : State). s.waiting) is) held
 
   by_step : (old : State) (call : Call) (reply : Reply) (new : State) → IsTold call reply → Step old call reply new
       → IsHeld old → IsHeld new
   by_step old call reply new told (inl (stopped, answer, is)) held = same_held old new is held
-  by_step old call reply new told (inr (running, h)) held = by_call old call reply new told running h held
+  by_step old call reply new told (inr (running, h)) held =
+      by_change old call reply new told running (change-of old new call reply h) held
 
   told_by : (call : Call) (reply : Reply) → ((c : Command)
       → ◌≡◌ {A = Exchange} (record { call = call; reply = reply }) (failing c) → Failed c) → IsTold call reply

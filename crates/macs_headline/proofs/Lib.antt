@@ -3,6 +3,7 @@ pub mod Ledger
 pub mod Places
 pub mod Accepted
 pub mod Changing
+pub mod Changes
 pub mod Effects
 pub mod Sent
 pub mod Given

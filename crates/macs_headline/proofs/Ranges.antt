@@ -1,6 +1,6 @@
 -- Next packet numbers stay within 1 and 2^32, and commands under way and those that wait in their ranges.
 use Rattle.std.proofs.Common.{◌≡◌, ◌<◌, ◌≤◌, ◌+◌, ◌%◌, ◌^◌, ◌==◌, inl, inr, ℕ, refl, sym, ◌∙◌, ap, subst, arith, List}
-use Rattle.std.proofs.Common.{[], ◌∷◌, length, Bool, true, false, cond, Result, Ok, Err}
+use Rattle.std.proofs.Common.{[], ◌∷◌, length, Bool, true, false, cond, Ok}
 use Rattle.std.specs.Prelude.{Option, Some, None, IfSome, not, ◌&&◌, is_ok, slice_index}
 use Rattle.std.specs.List.{AllByRecursion}
 use Rattle.std.proofs.lemmas.Bool.{cases_eq, eq-eqb, ltb-false, not-false}
@@ -20,42 +20,28 @@ use Rattle.macs_config.specs.declared.command.SciMode.{SciMode}
 use Rattle.macs_config.specs.declared.command.SciMode.TheVariants.{EndStation, Explicit, Implicit}
 use Rattle.macs_disk.specs.States.{Image}
 use Rattle.macs_txsc.specs.Transmit.{is_used_up, name_in, next_outgoing, tag_for, tx_faults}
-use Rattle.macs_rxsc.specs.declared.verdict.Verdict.{Verdict}
+use Rattle.macs_rxsc.specs.Receive.{Numbers}
 use Rattle.macs_store.specs.Found.{StandingIs}
 use Rattle.macs_store.specs.Standing.{Standing}
 use Rattle.macs_store.proofs.LargerEditions.{of-edition}
 use Rattle.macs_endpoint.specs.Calls.{IsInRange}
 use Rattle.macs_endpoint.specs.Queue.{with_waiting}
-use Rattle.macs_endpoint.specs.declared.fault.CommandFault.{CommandFault}
-use Rattle.macs_endpoint.specs.declared.fault.CommandFault.TheVariants as ran
-use Rattle.macs_endpoint.specs.declared.fault.ProtectFault.{ProtectFault}
-use Rattle.macs_endpoint.specs.declared.fault.ProtectFault.TheVariants as protect
-use Rattle.macs_endpoint.specs.declared.fault.RefillFault.{RefillFault}
-use Rattle.macs_endpoint.specs.declared.fault.RefillFault.TheVariants as refill
-use Rattle.macs_endpoint.specs.declared.fault.StepFault.{StepFault}
-use Rattle.macs_endpoint.specs.declared.fault.StepFault.TheVariants as advance
-use Rattle.macs_endpoint.specs.declared.fault.Stopped.{Stopped}
-use Rattle.macs_endpoint.specs.declared.fault.SubmitFault.{SubmitFault}
-use Rattle.macs_endpoint.specs.declared.fault.SubmitFault.TheVariants as submit
-use Rattle.macs_endpoint.specs.declared.progress.Step.{Step as Progress}
-use Rattle.macs_endpoint.specs.declared.progress.Step.TheVariants.{Done, Worked}
 use Rattle.macs_endpoint.specs.declared.queue.Waiting.{Waiting}
 use Rattle.macs_endpoint.specs.Restart.{Restart, Resumes, TxRises, opened_state, state_taking, state_taking_alone}
 use Rattle.macs_endpoint.specs.Restart.{state_taking_first}
-use Rattle.macs_endpoint.specs.State.{Advanced, AdvancedLong, Advances, Call, Commands, Protected, Protects, Ran}
-use Rattle.macs_endpoint.specs.State.{Received, Receives, Refilled, Refills, RefusedLong, Reply, State, Submits}
-use Rattle.macs_endpoint.specs.State.{Submitted, no_logs, state_with_under_way, tx_side}
-use Rattle.macs_endpoint.specs.State.{Rested, Rests}
-use Rattle.macs_endpoint.specs.Step.{as_refill}
-use Rattle.macs_endpoint.specs.Step.{AdvanceStep, CommandStep, Ends, Exchange, Makes, ProtectStep, ReceiveStep}
-use Rattle.macs_endpoint.specs.Step.{RefillStep, RunningStep, Step, Steps, SubmitStep, TakesUp, next_after}
-use Rattle.macs_endpoint.specs.Step.{state_without_first}
+use Rattle.macs_endpoint.specs.State.{Advances, Call, Commands, Protected, Protects, Receives, Refills, Reply, State}
+use Rattle.macs_endpoint.specs.State.{Submits, Logs, no_logs, state_with_under_way, tx_side}
+use Rattle.macs_endpoint.specs.State.{Rests}
+use Rattle.macs_endpoint.specs.Step.{Exchange, Makes, ProtectStep, Step, Steps, TakesUp, next_after}
+use Rattle.macs_endpoint.specs.Step.{state_after_delivery, state_after_hold, state_without_first}
 use Rattle.macs_headline.specs.Frames.{FramesAreStandard, IsNamedIn, IsStandardFrame}
 use Rattle.macs_headline.specs.History.{Blank, FitsPast, FormatLeads, Formats, Formatted, IsLifeSoFar, LeadOn, Leads}
 use Rattle.macs_headline.specs.History.{Life, Past, Refuses, Serves, formatted_state, logs_of, state_at_end}
 use Rattle.macs_headline.specs.Moments.{Moment, OfItsEdition}
 use Rattle.macs_headline.proofs.Ledger.{some_one}
 use Rattle.macs_headline.proofs.Places.{put-that, put-this}
+use Rattle.macs_headline.proofs.Changes.{Begins, BeginsAndStops, Breaks, Change, Completes, Delivers, Drops, HoldsBack}
+use Rattle.macs_headline.proofs.Changes.{Obeys, Queues, Sends, Stays, Stops, change-of}
 use Rattle.macs_headline.proofs.Accepted.{NoTest, accepted, no-test, right-mode, right-start, tx_of}
 use Rattle.macs_headline.proofs.Effects.{outgoing_is}
 use Rattle.macs_headline.proofs.FramesRead.{frame-bits, frame-named, frame-read, own-source}
@@ -159,11 +145,21 @@ module _ (edition : Edition) where
         queue = ranged.queue;
       })
 
+  -- no range is of the numbers that are received, or of what is logged
+  numbers_range : (old : State) (numbers : List ℕ → ℕ → Option Numbers) (logs : Logs) (new : State)
+      → new ≡ record old { numbers = numbers; logs = logs } → IsRanged edition old → IsRanged edition new
+  numbers_range old numbers logs new is ranged = subst (IsRanged edition) (sym is) (record {
+    same = ranged.same;
+    nexts = ranged.nexts;
+    channel = ranged.channel;
+    hand = ranged.hand;
+    queue = ranged.queue;
+  })
+
   stopped_range : (old new : State) → new ≡ record old { stopped = true } → IsRanged edition old → IsRanged edition new
   stopped_range old new is ranged = subst (IsRanged edition) (sym is) (record {
     same = ranged.same;
-    nexts =
-        ranged.nexts;
+    nexts = ranged.nexts;
     channel = ranged.channel;
     hand = ranged.hand;
     queue = ranged.queue;
@@ -179,43 +175,11 @@ module _ (edition : Edition) where
     queue = ranged.queue;
   }
 
-  by_command : (old : State) (c : Command) (result : Result (Unit {0}) CommandFault) (new : State) → IsCommand c
-      → CommandStep old c result new
-      → IsRanged edition old → IsRanged edition new
-  by_command old c (Ok done) new command (none, makes) ranged = makes_range old c new command makes ranged
-  by_command old c (Err ran.Stopped) new command h ranged = absurd h
-  by_command old c (Err ran.Disk) new command (none, accepts, is) ranged =
-      stopped_range (state_with_under_way old c) new is (hand_range old c command ranged)
-  by_command old c (Err ran.Busy) new command (some, is) ranged = same_range old new is ranged
-  by_command old c (Err fault) new command h ranged = same_range old new h.2 ranged
-
-  by_refill : (old : State) (result : Result (Unit {0}) RefillFault) (new : State) → RefillStep old result new
-      → IsRanged edition old → IsRanged edition new
-  by_refill old (Ok done) new (none, is) ranged = same_range old new is ranged
-  by_refill old (Err refill.Stopped) new h ranged = absurd h
-  by_refill old (Err refill.Disk) new (none, is) ranged = stopped_range old new is ranged
-  by_refill old (Err fault) new (none, is) ranged = same_range old new is ranged
-
   -- one more that waits
   more_commands : (waiting : List Waiting) (ticket : ℕ) (c : Command) → IsCommand c → AreCommands waiting
       → AreCommands (with_waiting waiting ticket c)
   more_commands [] ticket c command are = (command, tt)
   more_commands (first ∷ rest) ticket c command are = (are.0, more_commands rest ticket c command are.1)
-
-  by_submit : (old : State) (c : Command) (result : Result ℕ SubmitFault) (new : State) → IsCommand c
-      → SubmitStep old c result new
-      → IsRanged edition old → IsRanged edition new
-  by_submit old c (Ok ticket) new command (few, left, is_ticket, is) ranged =
-      subst (IsRanged edition) (sym is) (record {
-        same = ranged.same;
-        nexts = ranged.nexts;
-        channel = ranged.channel;
-        hand = ranged.hand;
-        queue = more_commands old.waiting (old.tickets + 1) c command ranged.queue;
-      })
-  by_submit old c (Err submit.QueueFull) new command (many, is) ranged = same_range old new is ranged
-  by_submit old c (Err submit.TicketsSpent) new command (few, spent, is) ranged = same_range old new is ranged
-  by_submit old c (Err submit.Stopped) new command h ranged = absurd h
 
   -- the first one that waits
   first_command : (old : State) (first : Waiting) (rest : List Waiting) → old.waiting ≡ first ∷ rest
@@ -238,30 +202,6 @@ module _ (edition : Edition) where
     hand = λ d is. absurd (none_some None d refl is);
     queue = are;
   }
-
-  by_end : (old : State) (first : Waiting) (rest : List Waiting) (result : Result (Unit {0}) CommandFault) (new : State)
-      → IsCommand first.command
-      → IsRanged edition (state_without_first old rest) → Ends old first rest result new → IsRanged edition new
-  by_end old first rest (Ok done) new command ranged makes =
-      makes_range (state_without_first old rest) first.command new command makes ranged
-  by_end old first rest (Err (ran.Refused refusal)) new command ranged (idle, why, is) =
-      same_range (state_without_first old rest) new is ranged
-  by_end old first rest (Err ran.GenerationsSpent) new command ranged (idle, accepts, is) =
-      same_range (state_without_first old rest) new is ranged
-  by_end old first rest (Err fault) new command ranged h = absurd h
-
-  by_advance : (old : State) (result : Result Progress StepFault) (new : State) → AdvanceStep old result new
-      → IsRanged edition old → IsRanged edition new
-  by_advance old (Ok Worked) new (inl is) ranged = same_range old new is ranged
-  by_advance old (Ok Worked) new (inr takes) ranged = taken_up old new takes ranged
-  by_advance old (Ok (Done ticket result)) new (first, rest, waiting, is_ticket, ends) ranged =
-      let queue = first_command old first rest waiting ranged in
-      by_end old first rest result new queue.0 (without_first old rest queue.1 ranged) ends
-  by_advance old (Err advance.Disk) new (inl is) ranged = stopped_range old new is ranged
-  by_advance old (Err advance.Disk) new (inr (mid, takes, is)) ranged =
-      stopped_range mid new is (taken_up old mid takes ranged)
-  by_advance old (Err advance.Stopped) new h ranged = absurd h
-  by_advance old result new is ranged = same_range old new is ranged
 
   -- a frame that goes out
   goes_out : (old : State) (plain : List ℕ) (pn : ℕ) (out : List ℕ) (new : State)
@@ -322,55 +262,44 @@ module _ (edition : Edition) where
         }),
       )
 
-  by_protect : (old : State) (plain : List ℕ) (result : Result ℕ ProtectFault) (out : List ℕ) (new : State)
-      → ProtectStep old plain result out new
+  by_change : (old : State) (call : Call) (reply : Reply) (new : State) → IsInRange call → Change old call reply new
       → IsRanged edition old → IsRanged edition new
-  by_protect old plain (Ok pn) out new h ranged = (goes_out old plain pn out new h ranged).1
-  by_protect old plain (Err (protect.Tx fault)) out new (why, empty, is) ranged = same_range old new is ranged
-  by_protect old plain (Err protect.Stopped) out new h ranged = absurd h
-
-  by_receive : (old : State) (frame : List ℕ) (result : Result Verdict Stopped) (out : List ℕ) (new : State)
-      → ReceiveStep old frame result out new
-      → IsRanged edition old → IsRanged edition new
-  by_receive old frame (Ok verdict) out new (inl (step, is_first, is_verdict, is_out, is)) ranged =
-      same_range old new is ranged
-  by_receive old frame (Ok verdict) out new (inr (a, there, inl (is_verdict, above, is_out, is))) ranged =
+  by_change old call reply new given (Stays is) ranged = same_range old new is ranged
+  by_change old call reply new given (Stops is) ranged = stopped_range old new is ranged
+  by_change old call reply new given (Obeys c asked none makes) ranged =
+      makes_range old c new (subst (λ (call : Call). IsInRange call) asked given) makes ranged
+  by_change old call reply new given (Breaks c asked told none accepts is) ranged =
+      stopped_range (state_with_under_way old c) new is
+      (hand_range old c (subst (λ (call : Call). IsInRange call) asked given) ranged)
+  by_change old call reply new given (Queues c asked is) ranged =
+      let command : IsCommand c = subst (λ (call : Call). IsInRange call) asked given in
       subst (IsRanged edition) (sym is) (record {
         same = ranged.same;
         nexts = ranged.nexts;
         channel = ranged.channel;
         hand = ranged.hand;
-        queue = ranged.queue;
+        queue = more_commands old.waiting (old.tickets + 1) c command ranged.queue;
       })
-  by_receive old frame (Ok verdict) out new (inr (a, there, inr (is_verdict, is_out, is))) ranged =
-      subst (IsRanged edition) (sym is) (record {
-        same = ranged.same;
-        nexts = ranged.nexts;
-        channel = ranged.channel;
-        hand = ranged.hand;
-        queue = ranged.queue;
-      })
-  by_receive old frame (Err stopped) out new h ranged = absurd h
-
-  by_call : (old : State) (call : Call) (reply : Reply) (new : State) → IsInRange call → RunningStep old call reply new
-      → IsRanged edition old → IsRanged edition new
-  by_call old (Commands c) (Ran result) new given h ranged = by_command old c result new given h ranged
-  by_call old Refills (Refilled result) new given h ranged = by_refill old result new h ranged
-  by_call old Rests (Rested result) new given h ranged = by_refill old (as_refill result) new h ranged
-  by_call old (Submits c) (Submitted result) new given h ranged = by_submit old c result new given h ranged
-  by_call old Advances (Advanced result) new given h ranged = by_advance old result new h ranged
-  by_call old (Protects plain) (Protected result out) new given h ranged = by_protect old plain result out new h ranged
-  by_call old (Receives frame) (Received result out) new given h ranged = by_receive old frame result out new h ranged
-  by_call old (Commands c) RefusedLong new given (none, why, is) ranged = same_range old new is ranged
-  by_call old Advances (AdvancedLong ticket) new given (first, rest, waiting, is_ticket, (idle, why, is)) ranged =
+  by_change old call reply new given (Begins asked takes) ranged = taken_up old new takes ranged
+  by_change old call reply new given (BeginsAndStops asked mid takes is) ranged =
+      stopped_range mid new is (taken_up old mid takes ranged)
+  by_change old call reply new given (Completes asked first rest waiting makes) ranged =
+      let queue = first_command old first rest waiting ranged in
+      makes_range (state_without_first old rest) first.command new queue.0 makes (without_first old rest queue.1 ranged)
+  by_change old call reply new given (Drops asked first rest waiting is) ranged =
       same_range (state_without_first old rest) new is
       (without_first old rest (first_command old first rest waiting ranged).1 ranged)
-  by_call old call reply new given h ranged = absurd h
+  by_change old call reply new given (Sends plain asked pn out h) ranged = (goes_out old plain pn out new h ranged).1
+  by_change old call reply new given (HoldsBack frame asked a there is) ranged =
+      numbers_range old (state_after_hold old a).numbers old.logs new is ranged
+  by_change old call reply new given (Delivers frame asked a there is) ranged =
+      numbers_range old (state_after_delivery old a).numbers (state_after_delivery old a).logs new is ranged
 
   by_step : (old : State) (call : Call) (reply : Reply) (new : State) → IsInRange call → Step old call reply new
       → IsRanged edition old → IsRanged edition new
   by_step old call reply new given (inl (stopped, answer, is)) ranged = same_range old new is ranged
-  by_step old call reply new given (inr (running, h)) ranged = by_call old call reply new given h ranged
+  by_step old call reply new given (inr (running, h)) ranged =
+      by_change old call reply new given (change-of old new call reply h) ranged
 
   by_steps : (old : State) (exchanges : List Exchange) (new : State)
       → AllByRecursion (λ (e : Exchange). IsInRange e.call) exchanges

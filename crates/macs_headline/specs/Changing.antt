@@ -1,6 +1,5 @@
 -- The headline on the configuration: the initial one, and how each command changes it.
-use Rattle.std.specs.Prelude.{◌≡◌, ◌↔◌, ◌++◌, ◌∷◌, ◌&&◌, true, false, ℕ, Bool, List, [], None, Some}
-use Rattle.std.specs.Prelude.{IsSomeAnd}
+use Rattle.std.specs.Prelude.{◌≡◌, true, false, ℕ, Bool, List, [], None, Some, IsSomeAnd}
 use Rattle.macs_aes.specs.Keys.{octets_of_key}
 use Rattle.macs_aes.specs.declared.keys.Key.{Key}
 use Rattle.macs_fields.specs.Fields.{octets_of}
@@ -58,8 +57,3 @@ IsDone (RxInstall sci an key start offset) new = IsSomeAnd (new.rx sci an) (λ s
 IsDone (RxRemove sci an) new = new.rx sci an ≡ None
 
 -- ---- what it leaves unchanged
-
--- the command is on validation
-abbrev pub IsOnValidate : Command → Type 0
-IsOnValidate (SetValidate validate) = Unit {0}
-IsOnValidate command = ⊥
