@@ -123,6 +123,6 @@ module _ {D : Type 0} (disk_of : D → Disk) where
             (FitsState (state_of old logs) (disk_in disk_of old))
             (FitsCall (disk_in disk_of old).sectors (state_of old logs) Rests (state_of turned later))
             (λ image fits. inl fits) (all.any_moment honest backed logs);
-        backed = turned_backed new (turn_after_refill old.turn old.reserving) (all.backed honest backed);
+        backed = turned_backed disk_of new (turn_after_refill old.turn old.reserving) (all.backed honest backed);
       };
     }

@@ -325,13 +325,13 @@ still_left a b image same left =
     subst (λ (k : ℕ). IsImage (a.past k) image) at_now at_a.3
 
 -- the call makes none
-abbrev Rests : Call → Type 0
-Rests (Submits c) = Unit {0}
-Rests (Protects plain) = Unit {0}
-Rests (Receives frame) = Unit {0}
-Rests call = ⊥
+abbrev IsQuiet : Call → Type 0
+IsQuiet (Submits c) = Unit {0}
+IsQuiet (Protects plain) = Unit {0}
+IsQuiet (Receives frame) = Unit {0}
+IsQuiet call = ⊥
 
-stays : {D : Type 0} (old new : EndpointValue D) (logs later : Logs) (call : Call) (reply : Reply) → Rests call
+stays : {D : Type 0} (old new : EndpointValue D) (logs later : Logs) (call : Call) (reply : Reply) → IsQuiet call
     → Step (state_of old logs) call reply (state_of new later) → IsStill old call reply new → new.store ≡ old.store
 stays old new logs later (Submits c) (Submitted result) rests step still = still
 stays old new logs later (Protects plain) (Protected result out) rests step still = still
@@ -359,7 +359,7 @@ module _ {D : Type 0} (disk_of : D → Disk) (last after : EndpointValue D) (log
             (state_of after step.0) works (by_work last logs sound.work) step.1 later
       ]
 
-  by_resting : (call : Call) → Rests call → IsCall disk_of last call reply after → (image : Image)
+  by_resting : (call : Call) → IsQuiet call → IsCall disk_of last call reply after → (image : Image)
       → LeftSince (disk_in disk_of after) (disk_in disk_of last).clock image
       → Fits this_edition (disk_in disk_of last).sectors image (state_of last logs)
   by_resting call rests is image left =

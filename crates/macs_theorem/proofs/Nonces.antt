@@ -36,7 +36,7 @@ use Rattle.macs_headline.proofs.Places.{put-that, put-this}
 use Rattle.macs_theorem.specs.Events.{Answer, Answers, Calls, Closes, Ends, EndsIn, Event, Formats, Happen, Happens}
 use Rattle.macs_theorem.specs.Events.{Holds, HoldsDisk, HoldsEndpoint, IsAnswered, Opens, Shows}
 use Rattle.macs_theorem.specs.Observer.{ExpectsAll, ExpectsCall, ExpectsCut, ExpectsReply, IsDone, IsFound, IsSent}
-use Rattle.macs_theorem.specs.Observer.{Observer, after_command, begin, begun_in, new_observer, settings_after}
+use Rattle.macs_theorem.specs.Observer.{Observer, after_command, begin, begun_in, new_observer, settings_after, unrested}
 use Rattle.macs_theorem.specs.Page.{AreProtected, NoNumberTwice, calls_in, installed_by, writes}
 use Rattle.macs_theorem.specs.Shown.{Settings, Shown, TxAssociation, shown_by}
 use Rattle.macs_theorem.proofs.Events.{all-is-expected}
@@ -183,9 +183,9 @@ module _ (keys : List (List ℕ)) where
 
   by_opening : (o : Observer) (formatted : Option Identity) (new : Observer) → AreKnown o → IsFound o formatted new
       → Quiet o new
-  by_opening o (Some identity) new known (inl resumed) = quiet o resumed.2 refl (known.0, tt, none_installs)
+  by_opening o (Some identity) new known (inl resumed) = quiet o resumed.3 refl (known.0, tt, none_installs)
   by_opening o (Some identity) new known (inr (c, begun, is_new, resumed)) =
-      quiet o resumed.2 refl (tx_after c o.settings (known.2 c begun) known.0, tt, none_installs)
+      quiet o resumed.3 refl (tx_after c o.settings (known.2 c begun) known.0, tt, none_installs)
   by_opening o None new known (identity, among, is) = quiet o is refl known
 
   -- what follows the calls after this one follows it too
@@ -251,6 +251,8 @@ module _ (keys : List (List ℕ)) where
       leads o Refills (Refilled (Err refill.Disk)) new refl (quiet o is refl known)
   by_call o Refills (Refilled result) new installs known is =
       leads o Refills (Refilled result) new refl (quiet o is refl known)
+  by_call o Rests (Rested (Ok done)) new installs known is =
+      leads o Rests (Rested (Ok done)) new refl (quiet o is.1 refl known)
   by_call o Rests (Rested (Err rest.Disk)) new installs known is =
       leads o Rests (Rested (Err rest.Disk)) new refl (quiet o is refl known)
   by_call o Rests (Rested result) new installs known is =
@@ -328,12 +330,12 @@ module _ (keys : List (List ℕ)) where
       → AreOnce o (calls_in events)
   once [] o these known expected = ([], tt, pairs-none, λ u among. absurd (contains-none u among))
   once (Answers (Calls call reply) ∷ events) o these known (new, is, rest) =
-      once_on o call reply new events these
-      (λ installs. by_reply o.stopped o call reply new installs known is)
+      once_on (unrested o) call reply new events these
+      (λ installs. by_reply o.stopped (unrested o) call reply new installs known is)
       (λ these known. once events new these known rest)
   once (EndsIn (Calls call reply) ∷ events) o these known (new, is, rest) =
-      once_on o call reply new events these
-      (λ installs. by_cut o call reply new installs known is)
+      once_on (unrested o) call reply new events these
+      (λ installs. by_cut (unrested o) call reply new installs known is)
       (λ these known. once events new these known rest)
   once (Answers (Formats identity (Ok done)) ∷ events) o these known (new, is, rest) =
       once_by o new (calls_in events) (quiet o is.1 refl known) (λ known. once events new these known rest)

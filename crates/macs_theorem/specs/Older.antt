@@ -1,5 +1,5 @@
 -- Disks that an older edition used: what an observer knows about them, and expects from then on.
-use Rattle.std.specs.Prelude.{◌++◌, List, [], map, None, Some}
+use Rattle.std.specs.Prelude.{◌++◌, List, [], map, None, Some, false}
 use Rattle.macs_config.specs.Config.{Edition, IsUpTo, this_edition}
 use Rattle.macs_disk.specs.Disk.{Disk}
 use Rattle.macs_endpoint.specs.State.{Delivery, Use}

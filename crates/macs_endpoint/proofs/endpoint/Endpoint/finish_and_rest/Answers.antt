@@ -1,4 +1,4 @@
-use Rattle.std.proofs.Common.{◌≡◌, ◌∙◌, Result, Ok, Err, is_err, true, false, ap, subst}
+use Rattle.std.proofs.Common.{◌≡◌, ◌∙◌, Result, Ok, Err, is_err, true, false, sym, ap, subst}
 use Rattle.macs_endpoint.specs.Reserving.{ReservationEnds}
 use Rattle.macs_endpoint.specs.State.{no_logs}
 use Rattle.macs_endpoint.specs.declared.fault.RefillFault.{RefillFault}
@@ -33,15 +33,15 @@ module _ (g : Over) (c : After-finish_reservation g) where
 pub returns-then-is_err : goal.returns-then-is_err
 returns-then-is_err g c =
     let at = (goal.at.returns-then-is_err g c).After-finish_reservation in
-    rest-cut-before g.D.SectorDisk.disk c.args.self.now c.finish_reservation.new.self (cut g at c.if-is_err.true)
+    rest-cut-before g.D.SectorDisk.disk c.args.self.now c.finish_reservation.new.self (cut g at (sym c.is_err.ensures.value ∙ c.if-is_err.true))
 
 pub rest_idle-requires-clause-running : goal.rest_idle-requires-clause-running
 rest_idle-requires-clause-running g c =
     let at = (goal.at.rest_idle-requires-clause-running g c).After-finish_reservation in
-    ap (λ s. s.stopped) ((ended g at c.if-is_err.false).reserves.step no_logs) ∙ c.requires.running
+    ap (λ s. s.stopped) ((ended g at (sym c.is_err.ensures.value ∙ c.if-is_err.false)).reserves.step no_logs) ∙ c.requires.running
 
 pub returns : goal.returns
 returns g c =
     let at = (goal.at.returns g c).After-finish_reservation in
     rests-after g.D.SectorDisk.disk c.args.self.now c.finish_reservation.new.self c.rest_idle.new.self
-    (ended g at c.if-is_err.false) c.rest_idle.result c.rest_idle.ensures
+    (ended g at (sym c.is_err.ensures.value ∙ c.if-is_err.false)) c.rest_idle.result c.rest_idle.ensures

@@ -10,14 +10,16 @@ use Rattle.macs_endpoint.proofs.endpoint.Endpoint.rest.Goals as goal
 
 pub returns-then-is_stopped : goal.returns-then-is_stopped
 returns-then-is_stopped g c =
-    stopped-rest g.D.SectorDisk.disk c.args.self.now (sym c.is_stopped.ensures ∙ c.if-is_stopped.true)
+    record { call = stopped-rest g.D.SectorDisk.disk c.args.self.now (sym c.is_stopped.ensures ∙ c.if-is_stopped.true) }
 
 pub returns-then-not-is_empty : goal.returns-then-not-is_empty
 returns-then-not-is_empty g c =
     let waits : ¬ (c.args.self.now.waiting ≡ []) = λ none.
     not_stopped c.is_empty.result (c.is_empty.ensures.1
     (ap (λ (e : EndpointValue g.row.D.Denot). e.waiting) c.self.view_is ∙ none)) c.if-not-is_empty.true in
-    busy-rest g.D.SectorDisk.disk c.args.self.now (sym c.is_stopped.ensures ∙ c.if-is_stopped.false) waits
+    record {
+      call = busy-rest g.D.SectorDisk.disk c.args.self.now (sym c.is_stopped.ensures ∙ c.if-is_stopped.false) waits;
+    }
 
 pub invariant_of-self : goal.invariant_of-self
 invariant_of-self g c = turned-kept _ c.turn_after_refill-turn.result c.self-2.invariant
@@ -30,8 +32,10 @@ returns g c =
     let call =
     rest-call g.D.SectorDisk.disk e c.finish_and_rest-result.new.self none c.finish_and_rest-result.result
     (sym c.is_stopped.ensures ∙ c.if-is_stopped.false) c.finish_and_rest-result.ensures in
-    subst (λ (x : EndpointValue g.row.D.Denot).
-    IsCall g.D.SectorDisk.disk e Rests (Rested c.finish_and_rest-result.result)
-    (record x { turn = c.turn_after_refill-turn.result })) (sym c.self-2.view_is)
-    (subst (λ (t : Turn). IsCall g.D.SectorDisk.disk e Rests (Rested c.finish_and_rest-result.result)
-    (record c.finish_and_rest-result.new.self { turn = t })) (sym c.turn_after_refill-turn.ensures) call)
+    record {
+      call = subst (λ (x : EndpointValue g.row.D.Denot).
+          IsCall g.D.SectorDisk.disk e Rests (Rested c.finish_and_rest-result.result)
+          (record x { turn = c.turn_after_refill-turn.result })) (sym c.self-2.view_is)
+          (subst (λ (t : Turn). IsCall g.D.SectorDisk.disk e Rests (Rested c.finish_and_rest-result.result)
+          (record c.finish_and_rest-result.new.self { turn = t })) (sym c.turn_after_refill-turn.ensures) call);
+    }
