@@ -4,9 +4,8 @@
 ghost use Rattle.std.specs.Prelude.{◌≡◌, ◌≢◌, ◌≤◌, ◌+◌, ◌⊎◌, ℕ, false, true, List, Result, IsErr};
 ghost use Rattle.std.specs.Prelude.{IsOk};
 ghost use Rattle.macs_disk.specs.States.{Image, IsImage, IsSector, IsSound, DiskState};
-ghost use Rattle.macs_disk.specs.States.{state_after_sync, state_after_write};
-ghost use Rattle.macs_disk.specs.Disk.{Disk, FailsOnce, IsDeviceCall, IsHonest, IsWork, LeftSince};
-ghost use Rattle.macs_disk.specs.Disk.{MayLeave, Reads, Syncs};
+ghost use Rattle.macs_disk.specs.States.{state_after_write};
+ghost use Rattle.macs_disk.specs.Disk.{Disk, IsDeviceCall, IsHonest, IsWork, MayLeave, Reads, Syncs};
 ghost use Rattle.macs_disk.specs.Disk.{Works, Writes, now};
 ghost use Rattle.macs_disk.specs.Runs.{Leaves, LeavesNothingNew};
 ghost use Rattle.macs_disk.specs.Fuses.{FuseValue, disk_of_fuse};
@@ -32,34 +31,6 @@ pub trait Property {
     /// Holds of the images that have the property.
     ghost holds: { Image → Type 0 };
 }
-
-/// If nothing is pending, a power loss leaves what reads give and nothing else.
-pub fn one_image_without_pending()
-    ensures { (state : DiskState) (image : Image) → IsSound state
-        → ((i : ℕ) → state.pending i ≡ false)
-        → IsImage state image → (i : ℕ) → image i ≡ state.seen i }
-{}
-
-/// A power loss leaves sectors of 512 octets.
-pub fn images_are_sectors()
-    ensures { (state : DiskState) (image : Image) → IsSound state → IsImage state image
-        → (i : ℕ) → IsSector (image i) }
-{}
-
-/// What a power loss may leave after a sync, it could leave before.
-pub fn a_sync_leaves_nothing_new()
-    ensures { (state : DiskState) (image : Image) → IsSound state
-        → IsImage (state_after_sync state) image
-        → IsImage state image }
-{}
-
-/// What a power loss may leave after a write, it could leave before, except in the sector that was
-/// written.
-pub fn a_write_leaves_one_sector()
-    ensures { (state : DiskState) (at : ℕ) (octets : List ℕ) (image : Image) → IsSound state
-        → IsImage (state_after_write state at octets) image
-        → (before : Image) × IsImage state before × ((i : ℕ) → i ≢ at → image i ≡ before i) }
-{}
 
 /// What a call counts. Before the disk is worn the clock advances by one, and a failure is counted
 /// if and only if it is returned. On a worn disk the call fails, the state stays, and both counts
@@ -120,24 +91,6 @@ pub fn work_goes_on<T, E>()
         → IsWork mid new result → IsWork old new result }
 {}
 
-/// One fault stays one, if no call fails after it and none failed before.
-pub fn one_fault_stays()
-    ensures after { (old mid new : Disk) → FailsOnce old mid → Works mid new
-        → new.failures ≡ mid.failures
-        → FailsOnce old new }
-    ensures before { (old mid new : Disk) → mid.failures ≡ old.failures → FailsOnce mid new
-        → FailsOnce old new }
-{}
-
-/// What might be left since a moment, might be left since each earlier one; and what may be left
-/// now, might be left since each moment.
-pub fn left_since_earlier()
-    ensures earlier { (disk : Disk) (since until : ℕ) (image : Image) → since ≤ until
-        → LeftSince disk until image → LeftSince disk since image }
-    ensures now { (disk : Disk) (since : ℕ) (image : Image) → since ≤ disk.clock
-        → MayLeave disk image → LeftSince disk since image }
-{}
-
 /// Before the first call.
 pub fn leaves_none<P: Property>()
     ensures { (disk : Disk) → ((image : Image) → MayLeave disk image → P.holds image)
@@ -175,12 +128,6 @@ pub fn leaves_weaker<P: Property, Q: Property>()
 pub fn leaves_now<P: Property>()
     ensures { (old new : Disk) → Leaves old new P.holds
         → (image : Image) → MayLeave new image → P.holds image }
-{}
-
-/// Consecutive runs that leave nothing new.
-pub fn nothing_new_twice()
-    ensures { (old mid new : Disk) → LeavesNothingNew old mid → LeavesNothingNew mid new
-        → LeavesNothingNew old new }
 {}
 
 /// An in-memory disk is an honest disk.

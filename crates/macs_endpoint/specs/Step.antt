@@ -116,7 +116,7 @@ abbrev pub state_without_first : State → List Waiting → State
 state_without_first s rest = record s { waiting = rest; under_way = None }
 
 -- The first pending command is completed. One that is under way took effect; one that is not took effect, or was
--- refused, or the journal cannot be rewritten for it.
+-- refused, or it needs a compaction that is not possible.
 abbrev pub Ends : State → Waiting → List Waiting → Result (Unit {0}) CommandFault → State → Type 0
 Ends old first rest (Ok done) new = Makes (state_without_first old rest) first.command new
 Ends old first rest (Err (ran.Refused refusal)) new =

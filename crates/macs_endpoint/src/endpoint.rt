@@ -51,12 +51,12 @@ impl<D: SectorDisk> Model for Endpoint<D> {
 
 impl<D: SectorDisk> Endpoint<D> {
     /// Opens a disk: one sync makes durable what reads give; after it, only reads are made, unless
-    /// its journal is of format one: that is then rewritten in the other area, in format two, and
-    /// represents the same configuration and ceilings. The packet numbers of each association begin
-    /// at its ceiling, and nothing has been counted. Fails with `TooSmall`, then with `Disk` at the
-    /// first call that fails, `NotFormatted` and `BadJournal`, with `GenerationsSpent` if a journal
-    /// of format one has generation 2^64 - 1, and with `Disk` at the first call that fails while
-    /// the journal is rewritten: the next opening finds what this one found. The disk is returned.
+    /// its journal is of format one: that is then migrated to format two, and represents the same
+    /// configuration and ceilings. The packet numbers of each association begin at its ceiling, and
+    /// nothing has been counted. Fails with `TooSmall`, then with `Disk` at the first call that
+    /// fails, `NotFormatted` and `BadJournal`, with `GenerationsSpent` if a journal of format one
+    /// has generation 2^64 - 1, and with `Disk` at the first call of the migration that fails: the
+    /// next opening finds what this one found. The disk is returned.
     #[inline(always)] // Else it has a place of its own for the endpoint, beside its caller's.
     pub fn open(disk: D) -> Result<Endpoint<D>, OpenRefused<D>>
         ensures { IsOpening D.disk disk result }

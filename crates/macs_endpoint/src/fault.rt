@@ -14,8 +14,8 @@ pub enum CommandFault {
     Busy,
     /// The command does not fit the configuration.
     Refused(Refusal),
-    /// All 256 slots of the journal's current area are used, and its generation is 2^64 - 1: it
-    /// cannot be rewritten.
+    /// All 256 slots of the journal's current area are used, and its generation is 2^64 - 1: no
+    /// compaction is possible.
     GenerationsSpent,
     /// A device call failed: the next opening may or may not find the command.
     Disk,
@@ -54,7 +54,7 @@ pub enum StepFault {
     /// A device call failed before: the disk must be opened again.
     Stopped,
     /// A ceiling must be raised, all 256 slots of the journal's current area are used, and its
-    /// generation is 2^64 - 1: it cannot be rewritten. The next step takes the first pending
+    /// generation is 2^64 - 1: no compaction is possible. The next step takes the first pending
     /// command, if any.
     GenerationsSpent,
     /// The device call failed.
@@ -69,8 +69,8 @@ pub enum RefillFault {
     Stopped,
     /// A submitted command is pending: nothing changes.
     Busy,
-    /// All 256 slots of the journal's current area are used, and its generation is 2^64 - 1: it
-    /// cannot be rewritten. No further ceiling is raised.
+    /// All 256 slots of the journal's current area are used, and its generation is 2^64 - 1: no
+    /// compaction is possible. No further ceiling is raised.
     GenerationsSpent,
     /// A device call failed.
     Disk,

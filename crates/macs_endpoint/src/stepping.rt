@@ -49,9 +49,9 @@ impl<D: SectorDisk> Endpoint<D> {
     /// continues; otherwise the reservation that is needed first begins, or the first pending
     /// command, in turns if there are both, starting with the reservation after an opening. A
     /// reservation or a command takes effect with the last device call of its work. Fails with
-    /// `Stopped`; with `GenerationsSpent` if a reservation has its turn and the journal cannot be
-    /// rewritten; and with `Disk` if the call fails: the endpoint is stopped, and the next opening
-    /// finds what was under way or not.
+    /// `Stopped`; with `GenerationsSpent` if a reservation has its turn and needs a compaction that
+    /// is not possible; and with `Disk` if the call fails: the endpoint is stopped, and the next
+    /// opening finds what was under way or not.
     pub fn step(&mut self) -> Result<Step, StepFault>
         ensures call { IsCall D.disk self.old Advances (Advanced result) self.new }
     {

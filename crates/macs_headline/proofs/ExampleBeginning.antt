@@ -10,7 +10,7 @@ use Rattle.macs_journal.specs.Appending.{IsReady}
 use Rattle.macs_journal.specs.Areas.{gates, head_body, slot_body}
 use Rattle.macs_journal.specs.Compacting.{HasOpenGates, next_head}
 use Rattle.macs_journal.specs.Found.{IsGateOpen}
-use Rattle.macs_journal.specs.Rewriting.{IsNoBody, IsSettled}
+use Rattle.macs_journal.specs.NewArea.{IsNoBody, IsSettled}
 use Rattle.macs_journal.specs.Stages.{AreBodiesWritten, IsBodyOf, IsCleared}
 use Rattle.macs_journal.specs.Value.{IsHolding}
 use Rattle.macs_journal.specs.Work.{IsSpared}

@@ -22,7 +22,7 @@ use Rattle.macs_journal.specs.Appending.{IsBodyDurable, IsReady, free_body, free
 use Rattle.macs_journal.specs.Areas.{gate, gates, head_body, slot_body, slots}
 use Rattle.macs_journal.specs.Compacting.{HasOpenGates, next_head}
 use Rattle.macs_journal.specs.Found.{Content, HasJournal, IsGateOpen, content_with_record}
-use Rattle.macs_journal.specs.Rewriting.{IsNoBody, IsSettled}
+use Rattle.macs_journal.specs.NewArea.{IsNoBody, IsSettled}
 use Rattle.macs_journal.specs.Stages.{AreBodiesWritten, IsBodyOf, IsCleared}
 use Rattle.macs_journal.specs.Value.{IsHolding}
 use Rattle.macs_journal.specs.Work.{IsSpared}

@@ -9,7 +9,7 @@ use Rattle.macs_disk.specs.States.{Image, settled_state, state_after_sync}
 use Rattle.macs_record.specs.declared.format.Format.TheVariants.{One, Two}
 use Rattle.macs_journal.specs.Areas.{least_sectors}
 use Rattle.macs_journal.specs.Found.{Content, HasFormat, HasJournal, IsNotFormatted}
-use Rattle.macs_journal.specs.Rewriting.{IsSettled}
+use Rattle.macs_journal.specs.NewArea.{IsSettled}
 use Rattle.macs_journal.specs.declared.fault.JournalFault.{JournalFault}
 use Rattle.macs_journal.specs.declared.fault.JournalFault.TheVariants.{Disk as DiskFault, NotFormatted, TooSmall}
 use Rattle.macs_journal.specs.declared.recovery.RecoverRefused.{RecoverRefused}

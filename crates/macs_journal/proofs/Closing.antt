@@ -17,7 +17,7 @@ use Rattle.macs_journal.specs.Appending.{IsReady}
 use Rattle.macs_journal.specs.Areas.{gate, gates, head_body, slot_body}
 use Rattle.macs_journal.specs.Formatting.{FormatWrites, IsBlank, IsNewOrNone, first_content, first_head}
 use Rattle.macs_journal.specs.Found.{HasJournal, IsGateOpen, IsNotFormatted}
-use Rattle.macs_journal.specs.Rewriting.{AreClosed, HasNewGates, IsNoOpenGate, IsOldOrOpening, IsSettled}
+use Rattle.macs_journal.specs.NewArea.{AreClosed, HasNewGates, IsNoOpenGate, IsOldOrOpening, IsSettled}
 use Rattle.macs_journal.specs.Work.{IsSpared}
 use Rattle.macs_journal.proofs.Appends.{open_or_closed}
 use Rattle.macs_journal.proofs.Blank.{blank-leaves}

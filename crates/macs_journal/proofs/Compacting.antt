@@ -12,7 +12,7 @@ use Rattle.macs_journal.specs.Areas.{gates, other_area, slots}
 use Rattle.macs_journal.specs.Compacting.{Compacts, FindsUntil, HasOpenGates, IsBegun, compacted, compacted_place}
 use Rattle.macs_journal.specs.Compacting.{last_generation, next_head, with_nothing}
 use Rattle.macs_journal.specs.Found.{Content, HasJournal}
-use Rattle.macs_journal.specs.Stages.{AreGatesClosed, AtStage, IsRewritten, IsUnderWay, compact_left}
+use Rattle.macs_journal.specs.Stages.{AreGatesClosed, AtStage, IsCompacted, IsUnderWay, compact_left}
 use Rattle.macs_journal.specs.Stepping.{AtNextCall, IsCompactionUnderWay, IsSameTask, IsTaskUnderWay, Compaction}
 use Rattle.macs_journal.specs.Stepping.{Starts, calls_of}
 use Rattle.macs_journal.specs.Stepping.{place_then}
@@ -31,7 +31,7 @@ use Rattle.macs_journal.proofs.GateCalls.{none-closed}
 use Rattle.macs_journal.proofs.Holding.{idle-ready, kept-image}
 use Rattle.macs_journal.proofs.Spared.{Spared-start}
 use Rattle.macs_journal.proofs.Stages.{some-left}
-use Rattle.macs_journal.proofs.UnderWay.{rewritten-way, way-calls, way-gates, way-leaves, way-ready, way-spares}
+use Rattle.macs_journal.proofs.UnderWay.{compacted-way, way-calls, way-gates, way-leaves, way-ready, way-spares}
 use Rattle.macs_journal.proofs.UnderWay.{way-until}
 
 -- no call was made
@@ -321,12 +321,12 @@ module _ {D : Type 0} (disk_of : D → disk.Disk) (old new : JournalValue D) (re
   module _ (runs : is_stopped new ≡ false) (idle : IsIdle new)
       (place : new.place ≡ compacted_place old.place (length records))
       (work : IsWorkOf (disk_in disk_of old) (disk_in disk_of new) done)
-      (rewritten : disk.IsHonest (disk_in disk_of new)
-      → IsRewritten (disk_in disk_of old) (disk_in disk_of new) area head records) where
+      (compacts : disk.IsHonest (disk_in disk_of new)
+      → IsCompacted (disk_in disk_of old) (disk_in disk_of new) area head records) where
     under_way-to-end : disk.IsHonest (disk_in disk_of new)
         → IsUnderWay (disk_in disk_of old) (disk_in disk_of new) area head records
     under_way-to-end honest =
-        rewritten-way (disk_in disk_of old) (disk_in disk_of new) area head records begun.few (rewritten honest)
+        compacted-way (disk_in disk_of old) (disk_in disk_of new) area head records begun.few (compacts honest)
 
     holds-new : disk.IsHonest (disk_in disk_of new) → (before : Content)
         → HoldsContent disk_of (with_nothing old) before
@@ -342,7 +342,7 @@ module _ {D : Type 0} (disk_of : D → disk.Disk) (old new : JournalValue D) (re
       holds = (
         way-ready (disk_in disk_of old) (disk_in disk_of new) area head records begun.few before
             (idle-ready (disk_in disk_of old) old.place Nothing before holds) (ap other_area holds.at.area)
-            (ap (λ (h : Head). next_head h (length records)) holds.at.head) (rewritten honest),
+            (ap (λ (h : Head). next_head h (length records)) holds.at.head) (compacts honest),
         refl,
       );
     }
@@ -360,7 +360,7 @@ module _ {D : Type 0} (disk_of : D → disk.Disk) (old new : JournalValue D) (re
       work = work;
       most = few;
       calls = λ honest.
-          way-calls (disk_in disk_of old) (disk_in disk_of new) area head records begun.few (rewritten honest);
+          way-calls (disk_in disk_of old) (disk_in disk_of new) area head records begun.few (compacts honest);
       until = finds-until under_way-to-end;
       any_moment = leaves-either under_way-to-end;
       done = λ honest before holds.
@@ -372,7 +372,7 @@ module _ {D : Type 0} (disk_of : D → disk.Disk) (old new : JournalValue D) (re
           λ honest before holds. kept-image (disk_in disk_of new) (compacted_place old.place (length records)) Nothing
           (compacted before records) (holds-new honest before holds);
       gates = λ honest.
-          way-gates (disk_in disk_of old) (disk_in disk_of new) area head records begun.few (rewritten honest);
+          way-gates (disk_in disk_of old) (disk_in disk_of new) area head records begun.few (compacts honest);
       others = λ honest.
           way-spares (disk_in disk_of old) (disk_in disk_of new) area head records begun.few (under_way-to-end honest);
     }

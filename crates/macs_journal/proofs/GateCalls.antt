@@ -7,7 +7,7 @@ use Rattle.macs_disk.proofs.Moments.{Works-on, Works-start}
 use Rattle.macs_record.specs.Gates.{IsOpen, closed_gate}
 use Rattle.macs_journal.specs.Areas.{gate, gates}
 use Rattle.macs_journal.specs.Found.{IsGateOpen}
-use Rattle.macs_journal.specs.Rewriting.{AreClosed, IsNoOpenGate}
+use Rattle.macs_journal.specs.NewArea.{AreClosed, IsNoOpenGate}
 use Rattle.macs_journal.specs.Stages.{AreGatesClosed, IsCleared, IsClearing}
 use Rattle.macs_journal.specs.Work.{IsSpared}
 use Rattle.macs_journal.proofs.HeadOpened.{synced-settled}

@@ -10,8 +10,8 @@ use Rattle.macs_record.specs.Gates.{open_gate}
 use Rattle.macs_record.specs.Heads.{Head}
 use Rattle.macs_record.specs.declared.record.Record.{Record}
 use Rattle.macs_journal.specs.Areas.{gate}
-use Rattle.macs_journal.specs.Rewriting.{IsOldOrOpening}
-use Rattle.macs_journal.specs.Stages.{AreBodiesDurable, AreBodiesWritten, IsHeadOpened, IsOpening, IsRewritten}
+use Rattle.macs_journal.specs.NewArea.{IsOldOrOpening}
+use Rattle.macs_journal.specs.Stages.{AreBodiesDurable, AreBodiesWritten, IsHeadOpened, IsOpening, IsCompacted}
 use Rattle.macs_journal.specs.Work.{IsSpared}
 use Rattle.macs_journal.proofs.Appends.{sync-image, wrote}
 use Rattle.macs_journal.proofs.HeadOpened.{opening-image, synced-settled}
@@ -92,9 +92,9 @@ module _ {T E : Type 0} (began d new : Disk) (area : ℕ) (head : Head) (records
       (λ image left. at.images image (sync-image (now d) (now new) result sound.fit syncs image left))
       (λ i apart. Spared-sync d new result i sound call syncs)
 
-  pub rewritten : new.clock ≡ d.clock + 1 → now new ≡ state_after_sync (now d) → IsRewritten began new area head records
+  pub becomes-compacted : new.clock ≡ d.clock + 1 → now new ≡ state_after_sync (now d) → IsCompacted began new area head records
   unfolding opening-on opening-synced
-  rewritten one is = record {
+  becomes-compacted one is = record {
     opening = opening-synced;
     calls = (let was = at.calls in omega (arith, was, one));
     opened = ap (λ (s : DiskState). s.seen (gate area 0)) is ∙ at.opened;

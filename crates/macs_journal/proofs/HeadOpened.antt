@@ -9,7 +9,7 @@ use Rattle.macs_disk.proofs.Images.{put-other, synced-image}
 use Rattle.macs_disk.proofs.Moments.{Leaves-now}
 use Rattle.macs_record.specs.Gates.{IsOpen, open_gate}
 use Rattle.macs_journal.specs.Areas.{gate}
-use Rattle.macs_journal.specs.Rewriting.{IsOldOrOpening, IsSettled}
+use Rattle.macs_journal.specs.NewArea.{IsOldOrOpening, IsSettled}
 
 -- the gate as it is written is open
 pub open_gate-opens : IsOpen open_gate

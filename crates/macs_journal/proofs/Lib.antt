@@ -13,7 +13,7 @@ pub mod OpenGates
 pub mod HeadOpened
 pub mod Blank
 pub mod Closing
-pub mod Rewriting
+pub mod NewArea
 pub mod Compacting
 pub mod Stages
 pub mod GateCalls

@@ -8,7 +8,7 @@ use Rattle.macs_record.specs.Gates.{IsOpen, closed_gate, open_gate}
 use Rattle.macs_journal.specs.Areas.{gate, gates}
 use Rattle.macs_journal.specs.Compacting.{HasOpenGates}
 use Rattle.macs_journal.specs.Found.{IsGateOpen}
-use Rattle.macs_journal.specs.Rewriting.{AreClosed, HasNewGates, IsNoOpenGate}
+use Rattle.macs_journal.specs.NewArea.{AreClosed, HasNewGates, IsNoOpenGate}
 use Rattle.macs_journal.specs.Work.{IsSpared}
 use Rattle.macs_journal.proofs.Appends.{open_or_closed}
 use Rattle.macs_journal.proofs.Spared.{Spared-on, Spared-seen}

@@ -14,9 +14,9 @@ use Rattle.macs_journal.specs.Appending.{HasEitherJournal, IsReady}
 use Rattle.macs_journal.specs.Areas.{gate, gates, head_body, other_area, slot_body, slots}
 use Rattle.macs_journal.specs.Found.{Content, HasJournal}
 use Rattle.macs_journal.specs.Compacted.{CompactWrites, FindsUntil, HasOpenGates, compacted, next_head}
-use Rattle.macs_journal.specs.Rewriting.{AreBodies, HasNewGates}
+use Rattle.macs_journal.specs.NewArea.{AreBodies, HasNewGates}
 use Rattle.macs_journal.specs.Stages.{AreBodiesWritten, AreGatesClosed, AtNextStage, AtStage, Does, IsCompactStage}
-use Rattle.macs_journal.specs.Stages.{IsRewritten, IsUnderWay, body_from, gate_from, next_stage}
+use Rattle.macs_journal.specs.Stages.{IsCompacted, IsUnderWay, body_from, gate_from, next_stage}
 use Rattle.macs_journal.specs.Work.{IsSpared}
 use Rattle.macs_journal.specs.declared.compact_stage.CompactStage.{CompactStage}
 use Rattle.macs_journal.specs.declared.compact_stage.CompactStage.TheVariants.{ReadGate, CloseGate, GatesSync, HeadBody}
@@ -24,10 +24,10 @@ use Rattle.macs_journal.specs.declared.compact_stage.CompactStage.TheVariants.{B
 use Rattle.macs_journal.proofs.BodyCalls.{body-written, filling-first, filling-more, head-written}
 use Rattle.macs_journal.proofs.GateCalls.{clearing, gate-closed, gates-synced, read-closed, read-open}
 use Rattle.macs_journal.proofs.HeadCalls.{bodies-durable, head-opened, opening-first, opening-synced, opening-written}
-use Rattle.macs_journal.proofs.HeadCalls.{rewritten}
+use Rattle.macs_journal.proofs.HeadCalls.{becomes-compacted}
 use Rattle.macs_journal.proofs.HeadOpened.{left-until, open_gate-opens}
-use Rattle.macs_journal.proofs.Rewriting.{gates-opened, leaves-clearing, leaves-filling, leaves-opening}
-use Rattle.macs_journal.proofs.Rewriting.{ready-compacted, spared-clearing, spared-filling, spared-opening}
+use Rattle.macs_journal.proofs.NewArea.{gates-opened, leaves-clearing, leaves-filling, leaves-opening}
+use Rattle.macs_journal.proofs.NewArea.{ready-compacted, spared-clearing, spared-filling, spared-opening}
 use Rattle.macs_journal.proofs.Spared.{Spared-read, Spared-start, Spared-sync, Spared-write}
 use Rattle.macs_journal.proofs.Stages.{body_from-cases, gate_from-cases}
 
@@ -109,7 +109,7 @@ module _ {T E : Type 0} (began d new : Disk) (area : ℕ) (head : Head) (records
   call-next HeadGate is_open (Ok x) test at call one does =
       head-opened began d new area head records (Ok x) at call does one does.ok
   call-next HeadSync is_open (Ok x) test at call one does =
-      rewritten began d new area head records (Ok x) at sound call does one does.ok
+      becomes-compacted began d new area head records (Ok x) at sound call does one does.ok
 
 -- ---- what a power loss leaves while it is under way
 
@@ -179,7 +179,7 @@ module _ (began d : Disk) (area : ℕ) (head : Head) (records : List Record) (fe
         (filled-leaves at.full at.filled) at.leaves.works
         (λ k from until lt. at.until k from until (omega (arith, lt, cleared, filled))) k from until lt image left
 
-    pub way-ready : next_head before.head (length records) ≡ head → IsRewritten began d area head records
+    pub way-ready : next_head before.head (length records) ≡ head → IsCompacted began d area head records
         → IsReady (now d) (compacted before records)
     way-ready head_is at =
         let o = at.opening in
@@ -200,17 +200,17 @@ module _ (began d : Disk) (area : ℕ) (head : Head) (records : List Record) (fe
       at.leaves.works at.others
 
   -- once it is done
-  pub rewritten-way : IsRewritten began d area head records → IsUnderWay began d area head records
-  rewritten-way at = inr (inr at.opening)
+  pub compacted-way : IsCompacted began d area head records → IsUnderWay began d area head records
+  compacted-way at = inr (inr at.opening)
 
-  pub way-gates : IsRewritten began d area head records → HasNewGates (now began).seen (now d).seen area
+  pub way-gates : IsCompacted began d area head records → HasNewGates (now began).seen (now d).seen area
   way-gates at =
       let o = at.opening in
       let f = o.filled in
       gates-opened began f.mid o.full d area (length records) f.cleared.closed f.works f.others o.leaves.works
       o.others at.opened
 
-  pub way-calls : IsRewritten began d area head records → (opened : ℕ) → HasOpenGates (now began).seen area gates opened
+  pub way-calls : IsCompacted began d area head records → (opened : ℕ) → HasOpenGates (now began).seen area gates opened
       → d.clock ≡ began.clock + (262 + opened + length records)
   way-calls at opened has =
       let cleared = at.opening.filled.cleared.calls opened has in

@@ -1,4 +1,4 @@
--- The content of a journal that is rewritten in its other area, and which sectors that writes to.
+-- The content that a compaction makes of a journal in its other area, and which sectors that writes to.
 use Rattle.std.specs.Prelude.{◌≡◌, ◌<◌, ◌≤◌, ◌⊎◌, ◌+◌, ◌-◌, ◌^◌, ℕ, zero, suc, List, length}
 use Rattle.macs_disk.specs.States.{Image, IsImage}
 use Rattle.macs_disk.specs.Disk as disk
@@ -18,7 +18,7 @@ abbrev pub next_head : Head → ℕ → Head
 next_head head count =
     record { format = Two; generation = head.generation + 1; count = count; identity = head.identity }
 
--- the content of a journal that is rewritten with these records
+-- the content of a journal after a compaction with these records
 abbrev pub compacted : Content → List Record → Content
 compacted c records = record { area = other_area c.area; head = next_head c.head (length records); records = records }
 

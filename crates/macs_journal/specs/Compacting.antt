@@ -1,4 +1,4 @@
--- A journal that is rewritten in its other area: its snapshot is written there, with a head of the next generation.
+-- A compaction: a snapshot is written into the journal's other area, with a head of the next generation.
 use Rattle.std.specs.Prelude.{◌≡◌, ◌≤◌, ◌⊎◌, ◌↔◌, ◌+◌, ℕ, true, false, List, length, Result, IsErrOf, OnOk, OnErr}
 use Rattle.macs_disk.specs.States.{Image}
 use Rattle.macs_disk.specs.Disk.{IsHonest, MayLeave, now}
@@ -8,7 +8,7 @@ use Rattle.macs_record.specs.declared.record.Record.{Record}
 use Rattle.macs_journal.specs.Appending.{HasEitherJournal}
 use Rattle.macs_journal.specs.Areas.{gates, other_area, slots}
 use Rattle.macs_journal.specs.Found.{Content, HasJournal}
-use Rattle.macs_journal.specs.Rewriting.{HasNewGates}
+use Rattle.macs_journal.specs.NewArea.{HasNewGates}
 use Rattle.macs_journal.specs.Stepping.{IsTaskUnderWay, Compaction, calls_of}
 use Rattle.macs_journal.specs.Value.{HoldsContent, IsIdle, JournalValue, disk_in, generation, is_stopped, left_of}
 use Rattle.macs_journal.specs.Work.{IsSpared, IsWorkOf}
@@ -35,7 +35,7 @@ pub record IsBegun {D : Type 0} (j : JournalValue D) (records : List Record) : T
 abbrev pub with_nothing : {D : Type 0} → JournalValue D → JournalValue D
 with_nothing j = record j { under_way = Nothing }
 
--- A journal is rewritten with these records in its other area. Fails with Stopped if a device call failed before, then
+-- A journal is compacted with these records, in its other area. Fails with Stopped if a device call failed before, then
 -- with GenerationsSpent if its generation is the last one, and changes nothing then; with Disk if a device call failed,
 -- which stops it. Until the head gate is written a power loss leaves the old content, from then on the old or the new,
 -- and after Ok the new.

@@ -3,7 +3,7 @@ pub mod Found
 pub mod Appending
 pub mod Value
 pub mod Work
-pub mod Rewriting
+pub mod NewArea
 pub mod Compacted
 pub mod Stages
 pub mod Formatting

@@ -11,7 +11,7 @@ use Rattle.macs_record.specs.declared.record.Record.{Record}
 use Rattle.macs_journal.specs.Areas.{gate, gates, head_body, slot_body}
 use Rattle.macs_journal.specs.Found.{IsGateOpen}
 use Rattle.macs_journal.specs.Compacted.{HasOpenGates}
-use Rattle.macs_journal.specs.Rewriting.{AreClosed, IsNoBody, IsNoOpenGate, IsOldOrOpening, IsSettled, IsShut}
+use Rattle.macs_journal.specs.NewArea.{AreClosed, IsNoBody, IsNoOpenGate, IsOldOrOpening, IsSettled, IsShut}
 use Rattle.macs_journal.specs.Work.{IsSpared}
 use Rattle.macs_journal.specs.declared.compact_stage.CompactStage.{CompactStage}
 use Rattle.macs_journal.specs.declared.compact_stage.CompactStage.TheVariants.{ReadGate, CloseGate, GatesSync, HeadBody}
@@ -139,7 +139,7 @@ pub record IsHeadOpened (began d : Disk) (area : ℕ) (head : Head) (records : L
   pub images : (image : Image) → IsImage (now d) image → IsOldOrOpening (now opening.full) area image
 
 -- it is durable
-pub record IsRewritten (began d : Disk) (area : ℕ) (head : Head) (records : List Record) : Type 0 where
+pub record IsCompacted (began d : Disk) (area : ℕ) (head : Head) (records : List Record) : Type 0 where
   pub opening : IsOpening began d area head records
   pub calls : d.clock ≡ opening.full.clock + 3
   pub opened : (now d).seen (gate area 0) ≡ open_gate
@@ -159,7 +159,7 @@ AtStage began d area head records HeadSync = IsHeadOpened began d area head reco
 -- before the next call, or after the last
 abbrev pub AtNextStage : (began d : Disk) → ℕ → Head → List Record → Option CompactStage → Type 0
 AtNextStage began d area head records (Some stage) = AtStage began d area head records stage
-AtNextStage began d area head records None = IsRewritten began d area head records
+AtNextStage began d area head records None = IsCompacted began d area head records
 
 -- ---- regardless of a call's answer
 

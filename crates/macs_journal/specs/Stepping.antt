@@ -13,7 +13,7 @@ use Rattle.macs_journal.specs.Appending.{HasEitherJournal}
 use Rattle.macs_journal.specs.Areas.{gate, other_area, slot_body, slots}
 use Rattle.macs_journal.specs.Found.{Content, HasJournal, content_with_record}
 use Rattle.macs_journal.specs.Compacted.{compacted, last_generation, next_head}
-use Rattle.macs_journal.specs.Stages.{AtStage, IsRewritten, IsUnderWay}
+use Rattle.macs_journal.specs.Stages.{AtStage, IsCompacted, IsUnderWay}
 use Rattle.macs_journal.specs.Value.{AreLent, ComesTo, HoldsContent, HoldsWith, IsHolding, IsIdle, IsMadeOf}
 use Rattle.macs_journal.specs.Value.{IsNoCompact, JournalValue, append_left, device_in, disk_in, generation, is_stopped}
 use Rattle.macs_journal.specs.Value.{left_of}
@@ -30,7 +30,7 @@ use Rattle.macs_journal.specs.declared.work.Work.TheVariants.{Append, Compact}
 
 -- ---- tasks
 
--- to append a record, or to rewrite the journal with these
+-- to append a record, or to compact the journal with these
 pub data Task : Type 0 where
   Appends : Record → Task
   Compaction : List Record → Task
@@ -45,12 +45,12 @@ abbrev pub after_task : Task → Content → Content
 after_task (Appends r) before = content_with_record before r
 after_task (Compaction records) before = compacted before records
 
--- the area is not full, or there is at least one record to rewrite the journal with
+-- the area is not full, or there is at least one record for a compaction
 abbrev pub FitsWork : Place → Work → Type 0
 FitsWork place (Append r) = place.free < slots
 FitsWork place (Compact records) = 1 ≤ length records.items
 
--- the journal should be rewritten, and its generation is the last
+-- it is a compaction, and the generation is the last
 abbrev pub IsSpent : {D : Type 0} → JournalValue D → Task → Type 0
 IsSpent j (Appends r) = ⊥
 IsSpent j (Compaction records) = generation j ≡ last_generation
@@ -70,7 +70,7 @@ calls_of (Appends r) = 4
 calls_of (Compaction records) = 519 + length records
 
 -- A task is started, and no device call is made. Fails with Stopped if and only if a device call failed before; with
--- GenerationsSpent if and only if the journal should be rewritten and its generation is the last; nothing changes then.
+-- GenerationsSpent if and only if it is a compaction and the generation is the last; nothing changes then.
 pub record Starts {D : Type 0} (disk_of : D → disk.Disk) (old : JournalValue D) (task : Task)
     (result : Result (Unit {0}) JournalFault) (new : JournalValue D) : Type 0 where
   pub stopped : IsErrOf result Stopped ↔ (is_stopped old ≡ true)
@@ -180,7 +180,7 @@ pub record Advances {D : Type 0} (disk_of : D → disk.Disk) (old : JournalValue
 
 -- before the next device call of a compaction under way with this head, or after its last one
 abbrev pub AtNextCall : (began d : disk.Disk) → ℕ → Head → List Record → UnderWay → Type 0
-AtNextCall began d area head records under_way.Nothing = IsRewritten began d area head records
+AtNextCall began d area head records under_way.Nothing = IsCompacted began d area head records
 AtNextCall began d area head records (under_way.Append work) = ⊥
 AtNextCall began d area head records (under_way.Compact work) = (work.head ≡ head)
     × AtStage began d area head records work.stage

@@ -58,8 +58,8 @@ pub record IsAt (place : Place) (c : Content) : Type 0 where
   pub head : c.head ≡ place.head
   pub free : length c.records ≡ place.free
 
--- Since the disk `began`, with the content `before`, the journal is being rewritten with these records, and its calls
--- led to this disk.
+-- Since the disk `began`, with the content `before`, a compaction with these records is under way, and its calls led to
+-- this disk.
 pub record IsCompacting (d : Disk) (work : Compacting) (before after : Content) : Type 0 where
   pub began : Disk
   pub records : List Record
@@ -70,8 +70,7 @@ pub record IsCompacting (d : Disk) (work : Compacting) (before after : Content) 
   pub fits : IsCompactStage (length records) work.stage
   pub at : AtStage began d (other_area before.area) work.head records work.stage
 
--- nothing is under way, or a record that is being appended to a free slot, or records with which the journal is being
--- rewritten
+-- nothing is under way, or the append of a record to a free slot, or a compaction
 abbrev pub HoldsUnderWay : Disk → UnderWay → Content → Content → Type 0
 HoldsUnderWay d Nothing before after = IsReady (now d) before × (after ≡ before)
 HoldsUnderWay d (Append work) before after =
@@ -84,7 +83,7 @@ pub record IsHolding (d : Disk) (place : Place) (under_way : UnderWay) (before a
   pub at : IsAt place before
   pub holds : HoldsUnderWay d under_way before after
 
--- if the journal is being rewritten: there are as many records as its new head counts
+-- if a compaction is under way: there are as many records as its new head counts
 abbrev pub AreLent : UnderWay → List Record → Type 0
 AreLent Nothing snapshot = Unit {0}
 AreLent (Append work) snapshot = Unit {0}
@@ -96,8 +95,8 @@ IsMadeOf Nothing snapshot before after = Unit {0}
 IsMadeOf (Append work) snapshot before after = Unit {0}
 IsMadeOf (Compact work) snapshot before after = after ≡ compacted before snapshot
 
--- The disk has the content `before`, and `after` once the work under way is done, with these records if the journal is
--- being rewritten.
+-- The disk has the content `before`, and `after` once the work under way is done, with these records if it is a
+-- compaction.
 pub record HoldsWith (d : Disk) (place : Place) (under_way : UnderWay) (snapshot : List Record)
     (before after : Content) : Type 0 where
   pub holds : IsHolding d place under_way before after

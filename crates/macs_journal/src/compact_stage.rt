@@ -9,7 +9,7 @@ use crate::area::GATES;
 /// The device calls of a compaction, in order.
 #[derive(Clone, Copy)]
 pub enum CompactStage {
-    /// Reads a gate of the area that is rewritten: gate 0 is that of the head.
+    /// Reads a gate of the other area: gate 0 is that of the head.
     ReadGate(u64),
     /// Closes a gate that read open, since an old head there would name old bodies, and an old gate
     /// an old record.

@@ -1,4 +1,4 @@
-//! Rewriting a journal in its other area.
+//! Compactions of a journal into its other area.
 
 ghost use Rattle.std.specs.Prelude.{◌≡◌, ◌≤◌, ◌↔◌, None, IfSome, IsTrue, length};
 ghost use Rattle.macs_journal.specs.Areas.{slots};
@@ -12,27 +12,17 @@ use crate::journal::Journal;
 use crate::record_source::RecordSource;
 use crate::under_way::UnderWay;
 use macs_disk::SectorDisk;
-use macs_record::{Format, Head, Record};
+use macs_record::{Format, Head};
 
 impl<D: SectorDisk> Journal<D> {
-    /// Rewrites the journal with these records, 1 to 256, in the area that is not current: the
-    /// gates there that read open are closed, including that of the head, and this is made durable;
-    /// the bodies of the records and of a head of the next generation, in format two, are written
-    /// and made durable; the head gate is opened and made durable. Fails with `Stopped`, and with
-    /// `GenerationsSpent`, without changing anything; and with `Disk` at the first call that fails:
-    /// then a power loss leaves the journal with the earlier records or with these. No work is
-    /// under way, before or after.
-    pub fn compact(&mut self, records: &[Record]) -> Result<(), JournalFault>
-        requires idle { IsIdle self.old }
-        requires some { (1 ≤ length records.now) × (length records.now ≤ slots) }
-        ensures { Compacts D.disk self.old records.now result self.new }
-    {
-        self.compact_from(&records)
-    }
-
-    /// Rewrites the journal with the records of a source, 1 to 256, as `compact` does with those of
-    /// a slice: each is read once, when its body is written.
-    pub fn compact_from<R: RecordSource>(&mut self, records: &R) -> Result<(), JournalFault>
+    /// Compacts the journal with the records of a source, 1 to 256, into the area that is not
+    /// current: the gates there that read open are closed, including that of the head, and this is
+    /// made durable; the bodies of the records and of a head of the next generation, in format two,
+    /// are written and made durable; the head gate is opened and made durable. Each record is read
+    /// once, when its body is written. Fails with `Stopped`, and with `GenerationsSpent`, without
+    /// changing anything; and with `Disk` at the first call that fails: then a power loss leaves
+    /// the journal with the earlier records or with these. No work is under way, before or after.
+    pub fn compact<R: RecordSource>(&mut self, records: &R) -> Result<(), JournalFault>
         requires idle { IsIdle self.old }
         requires some { (1 ≤ length (R.listed records.now))
             × (length (R.listed records.now) ≤ slots) }

@@ -16,6 +16,6 @@ pub enum JournalFault {
     NotFormatted,
     /// A head gate is open, but the disk does not hold a valid journal.
     BadJournal,
-    /// The generation is 2^64 - 1: the journal cannot be rewritten. Nothing changes.
+    /// The generation is 2^64 - 1: no compaction is possible. Nothing changes.
     GenerationsSpent,
 }

@@ -14,7 +14,7 @@ ghost use Rattle.macs_journal.specs.Found.{IsGateOpen, IsNotFormatted};
 ghost use Rattle.macs_journal.specs.Formatting.{FormatWrites, HasOpenHead, IsBlank};
 ghost use Rattle.macs_journal.specs.Formatting.{IsJournalFormat, IsNewOrNone, first_content};
 ghost use Rattle.macs_journal.specs.Formatting.{first_head};
-ghost use Rattle.macs_journal.specs.Rewriting.{HasNewGates};
+ghost use Rattle.macs_journal.specs.NewArea.{HasNewGates};
 ghost use Rattle.macs_journal.specs.Work.{IsSpared};
 
 use crate::area::{Area, LEAST_SECTORS};

@@ -5,7 +5,7 @@ ghost use Rattle.macs_disk.specs.Disk.{IsHonest, IsWork, now};
 ghost use Rattle.macs_record.specs.Gates.{closed_gate};
 ghost use Rattle.macs_journal.specs.Areas.{gate, gates, least_sectors};
 ghost use Rattle.macs_journal.specs.Found.{IsGateOpen};
-ghost use Rattle.macs_journal.specs.Rewriting.{AreClosed, IsNoOpenGate};
+ghost use Rattle.macs_journal.specs.NewArea.{AreClosed, IsNoOpenGate};
 ghost use Rattle.macs_journal.specs.Work.{IsSpared};
 
 use crate::area::{Area, GATES};

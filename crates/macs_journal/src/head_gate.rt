@@ -5,7 +5,7 @@ ghost use Rattle.macs_disk.specs.Disk.{IsHonest, IsWork, now};
 ghost use Rattle.macs_disk.specs.Runs.{Leaves};
 ghost use Rattle.macs_record.specs.Gates.{open_gate};
 ghost use Rattle.macs_journal.specs.Areas.{gate, least_sectors};
-ghost use Rattle.macs_journal.specs.Rewriting.{IsOldOrOpening, IsSettled};
+ghost use Rattle.macs_journal.specs.NewArea.{IsOldOrOpening, IsSettled};
 ghost use Rattle.macs_journal.specs.Work.{IsSpared};
 
 use crate::area::Area;

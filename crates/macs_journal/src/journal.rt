@@ -79,8 +79,8 @@ impl<D: SectorDisk> Journal<D> {
         self.place.area.number()
     }
 
-    /// The generation of the current area: 1 when the disk is formatted, and one more each time the
-    /// journal is rewritten.
+    /// The generation of the current area: 1 when the disk is formatted, and one more with each
+    /// compaction.
     pub fn generation(&self) -> u64
         ensures { result ≡ generation self.now }
     {

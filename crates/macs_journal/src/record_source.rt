@@ -1,4 +1,4 @@
-//! The source of the records with which a journal is rewritten.
+//! The source of the records of a compaction.
 
 ghost use Rattle.std.specs.Prelude.{◌≡◌, List, length};
 ghost use Rattle.std.specs.List.{slice_get};
@@ -6,8 +6,7 @@ ghost use Rattle.macs_record.specs.declared.record.Record.{Record};
 
 use macs_record::Record;
 
-/// A source of the records with which a journal is rewritten: it has them by position, and makes
-/// one at a time.
+/// A source of the records of a compaction: it has them by position, and makes one at a time.
 pub trait RecordSource {
     /// The records, in the order of the slots that they go to.
     ghost listed: { Self → List Record };

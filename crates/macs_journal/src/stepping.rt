@@ -25,10 +25,9 @@ use macs_record::{Record, encode};
 
 impl<D: SectorDisk> Journal<D> {
     /// Starts work, and makes no call of the disk. None is under way before; for an append the area
-    /// is not full, and a journal is rewritten with 1 to 256 records. These stay with the caller:
-    /// only their number is read. Fails with `Stopped` if a device call failed before, then with
-    /// `GenerationsSpent` if the journal should be rewritten and its generation is 2^64 - 1;
-    /// nothing changes then.
+    /// is not full, and a compaction has 1 to 256 records. These stay with the caller: only their
+    /// number is read. Fails with `Stopped` if a device call failed before, then with
+    /// `GenerationsSpent` for a compaction in generation 2^64 - 1; nothing changes then.
     pub fn start(&mut self, work: &Work) -> Result<(), JournalFault>
         requires idle { IsIdle self.old }
         requires fits { FitsWork self.old.place work.now }
@@ -82,34 +81,25 @@ impl<D: SectorDisk> Journal<D> {
         Ok(())
     }
 
-    /// Whether these records may be passed to the next step: if the journal is being rewritten
-    /// there are as many as it was started with.
-    pub fn may_lend(&self, snapshot: &[Record]) -> bool
-        ensures { IsTrue result ↔ AreLent self.now.under_way snapshot.now }
+    /// Whether these records may be passed to the next step: if a compaction is under way there are
+    /// as many as it was started with.
+    pub fn may_lend<R: RecordSource>(&self, snapshot: &R) -> bool
+        ensures { IsTrue result ↔ AreLent self.now.under_way (R.listed snapshot.now) }
     {
         match &self.under_way {
-            UnderWay::Nothing => true,
-            UnderWay::Append(_) => true,
-            UnderWay::Compact(work) => snapshot.len() as u64 == u64::from(work.head.count()),
+            UnderWay::Compact(work) => snapshot.count() as u64 == u64::from(work.head.count()),
+            _ => true,
         }
     }
 
     /// Makes the next call of the disk of the work under way, and none if no work is under way. If
-    /// the journal is being rewritten, `snapshot` has as many records as it was started with
+    /// a compaction is under way, `snapshot` has as many records as it was started with
     /// (`may_lend`). They must be the same records at each step: otherwise nothing is promised
-    /// about what is on the disk. For other work `snapshot` is not read. Fails with `Stopped` if a
-    /// device call failed before, and with `Disk` if this one fails: then a power loss leaves the
-    /// journal as before the work or as after it, and no work is under way.
-    pub fn step(&mut self, snapshot: &[Record]) -> Result<JournalStep, JournalFault>
-        requires lent { AreLent self.old.under_way snapshot.now }
-        ensures { Steps D.disk self.old snapshot.now result self.new }
-    {
-        self.step_from(&snapshot)
-    }
-
-    /// Makes the next device call, as `step` does, with the records of a source: one of them is
-    /// read when its body is written, and none at any other call.
-    pub fn step_from<R: RecordSource>(&mut self, snapshot: &R) -> Result<JournalStep, JournalFault>
+    /// about what is on the disk. One of them is read when its body is written, and none at any
+    /// other call. Fails with `Stopped` if a device call failed before, and with `Disk` if this one
+    /// fails: then a power loss leaves the journal as before the work or as after it, and no work
+    /// is under way.
+    pub fn step<R: RecordSource>(&mut self, snapshot: &R) -> Result<JournalStep, JournalFault>
         requires lent { AreLent self.old.under_way (R.listed snapshot.now) }
         ensures { Steps D.disk self.old (R.listed snapshot.now) result self.new }
     {
@@ -182,7 +172,7 @@ impl<D: SectorDisk> Journal<D> {
         }
     }
 
-    /// Where the journal continues once it is rewritten.
+    /// Where the journal continues once it is compacted.
     fn new_place(&self) -> Place
         ensures { (work : Compacting) → self.now.under_way ≡ Compact work
             → result ≡ record {

@@ -8,7 +8,7 @@ use macs_record::Record;
 pub enum Work {
     /// To append a record.
     Append(Record),
-    /// To rewrite the journal with these records.
+    /// To compact the journal with these records.
     Compact(Records),
 }
 

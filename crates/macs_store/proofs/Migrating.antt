@@ -1,4 +1,4 @@
--- A disk whose journal was recovered: opened as it is, rewritten in format two, or refused.
+-- A disk whose journal was recovered: opened as it is, migrated, or refused.
 use Rattle.std.proofs.Common.{◌≡◌, ◌⊎◌, ◌∙◌, inl, inr, ℕ, Bool, true, false, if◌then◌else◌, List, length, Some, None}
 use Rattle.std.proofs.Common.{Result, Ok, Err, IsErrOf, refl, sym, ap, subst, arith}
 use Rattle.macs_config.specs.Config.{Edition, this_edition}
@@ -16,7 +16,7 @@ use Rattle.macs_journal.specs.Compacting.{CompactWrites, Compacts, compacted}
 use Rattle.macs_journal.specs.Found.{Content, HasFormat, HasJournal, JournalIs}
 use Rattle.macs_journal.specs.Opening.{IsNoJournal, IsRefused, Recovers, StandsFromFirst}
 use Rattle.macs_journal.specs.Recovery.{IsLeftBy}
-use Rattle.macs_journal.specs.Rewriting.{IsSettled}
+use Rattle.macs_journal.specs.NewArea.{IsSettled}
 use Rattle.macs_journal.specs.Value as journal
 use Rattle.macs_journal.specs.Value.{HoldsContent, IsMadeOf, JournalValue, content_of}
 use Rattle.macs_journal.specs.declared.fault.JournalFault.{JournalFault}
@@ -329,7 +329,7 @@ module _ {D : Type 0} (disk_of : D → Disk) (disk : D) (sound : IsHonest (disk_
             let same_meant = standing_one x (standing_in s) meant in
             subst (λ (c : Content). P c x) (sym same) (subst (λ (y : Standing). P content y) (sym same_meant) here)
 
-      -- the journal is rewritten
+      -- the journal is compacted
       module _ (old_format : migrates this_edition format ≡ true) (t : StoreValue D)
           (begins : CompactsHeld disk_of s done t) where
         abbrev after : Disk

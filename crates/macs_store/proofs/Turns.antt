@@ -1,15 +1,15 @@
 -- One step of a store, from what its journal answers.
-use Rattle.std.proofs.Common.{◌≡◌, ◌≢◌, ◌≤◌, ◌+◌, ◌∙◌, ℕ, true, false, if◌then◌else◌, Bool, List, [], length}
-use Rattle.std.proofs.Common.{Some, Result, Ok, Err, inl, inr, refl, ap, sym, subst, arith}
+use Rattle.std.proofs.Common.{◌≡◌, ◌≢◌, ◌≤◌, ◌⊎◌, ◌+◌, ◌∙◌, ℕ, true, false, Bool, List, length}
+use Rattle.std.proofs.Common.{Some, Result, Ok, Err, IsErrOf, inl, inr, refl, ap, sym, subst, arith}
 use Rattle.macs_config.specs.Config.{this_edition}
 use Rattle.macs_disk.specs.Disk.{Disk, IsDeviceCall, IsHonest}
 use Rattle.macs_disk.specs.Runs.{Leaves}
 use Rattle.macs_disk.proofs.Moments.{Leaves-start, Leaves-weaker, Works-start}
 use Rattle.macs_journal.specs.Appending.{HasEitherJournal}
-use Rattle.macs_journal.specs.Found.{Content, content_with_record}
+use Rattle.macs_journal.specs.Found.{content_with_record}
 use Rattle.macs_journal.specs.Stepping as journal
-use Rattle.macs_journal.specs.Stepping.{Appends, IsAppendUnderWay, IsSameTask, CompactsWith, place_then}
-use Rattle.macs_journal.specs.Value.{HoldsWith, IsMadeOf, IsNoCompact, JournalValue, left_of}
+use Rattle.macs_journal.specs.Stepping.{Appends, IsAppendUnderWay, CompactsWith, place_then}
+use Rattle.macs_journal.specs.Value.{IsMadeOf, IsNoCompact, JournalValue, left_of}
 use Rattle.macs_journal.specs.Value as journal_value
 use Rattle.macs_journal.specs.Work.{IsWorkOf}
 use Rattle.macs_journal.specs.declared.fault.JournalFault.{JournalFault}
@@ -19,14 +19,14 @@ use Rattle.macs_journal.specs.declared.under_way.UnderWay.TheVariants as journal
 use Rattle.macs_journal.specs.declared.place.Place.{Place}
 use Rattle.macs_journal.specs.declared.work.JournalStep.{JournalStep}
 use Rattle.macs_journal.specs.declared.work.JournalStep.TheVariants.{Finished, Going, Idle}
-use Rattle.macs_journal.proofs.Tasks.{append-with, still-appends}
+use Rattle.macs_journal.proofs.Tasks.{append-with}
 use Rattle.macs_journal.proofs.Working.{called}
 use Rattle.macs_record.specs.declared.record.Record.{Record}
 use Rattle.macs_store.specs.Found.{StandsForEither}
 use Rattle.macs_store.specs.Replay.{meaning_of, standing_after_record}
 use Rattle.macs_store.specs.Snapshot.{snapshot}
 use Rattle.macs_store.specs.Standing.{Standing}
-use Rattle.macs_store.specs.Stepping.{IsAppending, IsCompacting, Steps}
+use Rattle.macs_store.specs.Stepping.{Steps}
 use Rattle.macs_store.specs.Table.{StandingValue, standing_of}
 use Rattle.macs_store.specs.Value.{FitsUnderWay, IsIdle, IsStored, StoreValue, calls_left, calls_with, disk_in}
 use Rattle.macs_store.specs.Value.{generation_with, is_stopped, slots_with, snapshot_length, standing_in, standing_next}
@@ -42,6 +42,11 @@ answers step = Ok step
 
 abbrev refuses : JournalFault → Result JournalStep JournalFault
 refuses at = Err at
+
+-- its journal made a step, and the snapshot was lent to it
+abbrev pub JournalSteps : {D : Type 0} → (D → Disk) → StoreValue D → Result JournalStep JournalFault → JournalValue D
+    → Type 0
+JournalSteps disk_of s result j = journal.Steps disk_of s.journal (snapshot (standing_in s)) result j
 
 -- ---- no work is under way
 
@@ -100,13 +105,6 @@ module _ {D : Type 0} (disk_of : D → Disk) (s : StoreValue D) where
     kept = λ same. absurd (let no : Idle ≡ Finished = cc in cc);
   }
 
-  pub rests : IsIdle s → Steps disk_of s (if is_stopped s then refuses fault.Stopped else answers Idle) s
-  rests idle = by_test (is_stopped s) refl where
-    by_test : (stopped : Bool) → is_stopped s ≡ stopped
-        → Steps disk_of s (if stopped then refuses fault.Stopped else answers Idle) s
-    by_test true is = rests-stopped is
-    by_test false is = rests-idle is idle
-
 -- ---- what is read of a store with work under way
 
 -- the slots, the generation and the calls, by what is read of its journal
@@ -132,27 +130,23 @@ calls-fewer old new (Appending r) busy less = less
 -- ---- a device call of the journal
 
 module _ {D : Type 0} (disk_of : D → Disk) (s : StoreValue D) (runs : is_stopped s ≡ false) (busy : ¬ IsIdle s)
-    (at_work : ¬ (journal_value.IsIdle s.journal))
-    (records : List Record)
-    (lent : (content next : Content)
-    → HoldsWith (disk_in disk_of s) s.journal.place s.journal.under_way (snapshot (standing_in s)) content next
-    → HoldsWith (disk_in disk_of s) s.journal.place s.journal.under_way records content next) where
+    (at_work : ¬ (journal_value.IsIdle s.journal)) where
   runs_on : is_stopped s ≡ true → ⊥
   runs_on is = let no : true ≡ false = sym is ∙ runs in cc
 
   -- what a power loss leaves, whatever it answered
   moments : (result : Result JournalStep JournalFault) (j : JournalValue D)
-      → journal.Steps disk_of s.journal records result j
+      → JournalSteps disk_of s result j
       → IsHonest (disk_of j.disk) → IsStored disk_of s → (after : Standing) → standing_then s ≡ Some after
       → Leaves (disk_in disk_of s) (disk_of j.disk) (StandsForEither (standing_in s) after)
   moments result j steps honest stored after follows =
       Leaves-weaker (disk_in disk_of s) (disk_of j.disk) (HasEitherJournal stored.content stored.next)
       (StandsForEither (standing_in s) after)
       (λ image left. either-image disk_of s stored after follows image left)
-      (steps.any_moment honest stored.content stored.next (lent stored.content stored.next stored.holding))
+      (steps.any_moment honest stored.content stored.next stored.holding)
 
   -- it failed
-  pub turn-failed : (at : JournalFault) (j : JournalValue D) → journal.Steps disk_of s.journal records (refuses at) j
+  turn-failed : (at : JournalFault) (j : JournalValue D) → JournalSteps disk_of s (refuses at) j
       → Steps disk_of s (refuses at) (record { journal = j; held = s.held; under_way = Nothing })
   turn-failed at j steps = record {
     stopped = (λ same. steps.stopped.0 same, λ is. steps.stopped.1 is);
@@ -181,55 +175,44 @@ module _ {D : Type 0} (disk_of : D → Disk) (s : StoreValue D) (runs : is_stopp
   }
 
   -- the same work goes on
-  module _ (back : (j : JournalValue D) → IsSameTask s.journal.under_way j.under_way → (content next : Content)
-      → HoldsWith (disk_of j.disk) j.place j.under_way records content next
-      → HoldsWith (disk_of j.disk) j.place j.under_way (snapshot (standing_in s)) content next) where
-    turn-going : (j : JournalValue D) → journal.Steps disk_of s.journal records (answers Going) j
-        → Steps disk_of s (answers Going) (record s { journal = j })
-    turn-going j steps =
-        let place = steps.place (λ same. let no : Going ≡ Finished = cc in cc) in
-        record {
-          stopped = (λ same. absurd cc, λ is. absurd (runs_on is));
-          idle = (λ same. absurd (let no : Going ≡ Idle = cc in cc), λ both. absurd (busy both.1));
-          names = tt;
-          same = λ which. elim which [
-            | inl stopped ↦ absurd cc
-            | inr idle ↦ absurd (let no : Going ≡ Idle = cc in cc)
-          ];
-          halted = λ same. absurd cc;
-          running = steps.running;
-          standing = λ not. refl;
-          going = λ same. (busy, refl);
-          finished = λ same. absurd (let no : Going ≡ Finished = cc in cc);
-          slots = slots-kept s (record s { journal = j }) s.under_way place refl;
-          generation = generation-kept s (record s { journal = j }) s.under_way place;
-          work = record { works = steps.work.works; fails = steps.work.fails };
-          device = λ was still. steps.device runs at_work;
-          one = steps.one;
-          call = λ was. steps.call at_work;
-          left = λ was. calls-fewer s (record s { journal = j }) s.under_way busy (steps.left at_work);
-          last = λ same. absurd (let no : Going ≡ Finished = cc in cc);
-          any_moment = λ honest stored after follows. moments (answers Going) j steps honest stored after follows;
-          stored = λ honest stored. record {
-            content = stored.content;
-            next = stored.next;
-            holding = back j (steps.task refl) stored.content stored.next
-                (steps.goes_on refl honest stored.content stored.next (lent stored.content stored.next stored.holding));
-            stands = stored.stands;
-            becomes = stored.becomes;
-            leads = stored.leads;
-            form = stored.form;
-            form_next = stored.form_next;
-          };
-          kept = λ same. absurd (let no : Going ≡ Finished = cc in cc);
-        }
-
-    pub turn-on : (step : JournalStep) (j : JournalValue D) → step ≢ Finished
-        → journal.Steps disk_of s.journal records (answers step) j
-        → Steps disk_of s (answers Going) (record s { journal = j })
-    turn-on Idle j other steps = absurd (at_work (steps.idle.0 refl).1)
-    turn-on Going j other steps = turn-going j steps
-    turn-on Finished j other steps = absurd (other refl)
+  turn-going : (j : JournalValue D) → JournalSteps disk_of s (answers Going) j
+      → Steps disk_of s (answers Going) (record s { journal = j })
+  turn-going j steps =
+      let place = steps.place (λ same. let no : Going ≡ Finished = cc in cc) in
+      record {
+        stopped = (λ same. absurd cc, λ is. absurd (runs_on is));
+        idle = (λ same. absurd (let no : Going ≡ Idle = cc in cc), λ both. absurd (busy both.1));
+        names = tt;
+        same = λ which. elim which [
+          | inl stopped ↦ absurd cc
+          | inr idle ↦ absurd (let no : Going ≡ Idle = cc in cc)
+        ];
+        halted = λ same. absurd cc;
+        running = steps.running;
+        standing = λ not. refl;
+        going = λ same. (busy, refl);
+        finished = λ same. absurd (let no : Going ≡ Finished = cc in cc);
+        slots = slots-kept s (record s { journal = j }) s.under_way place refl;
+        generation = generation-kept s (record s { journal = j }) s.under_way place;
+        work = record { works = steps.work.works; fails = steps.work.fails };
+        device = λ was still. steps.device runs at_work;
+        one = steps.one;
+        call = λ was. steps.call at_work;
+        left = λ was. calls-fewer s (record s { journal = j }) s.under_way busy (steps.left at_work);
+        last = λ same. absurd (let no : Going ≡ Finished = cc in cc);
+        any_moment = λ honest stored after follows. moments (answers Going) j steps honest stored after follows;
+        stored = λ honest stored. record {
+          content = stored.content;
+          next = stored.next;
+          holding = steps.goes_on refl honest stored.content stored.next stored.holding;
+          stands = stored.stands;
+          becomes = stored.becomes;
+          leads = stored.leads;
+          form = stored.form;
+          form_next = stored.form_next;
+        };
+        kept = λ same. absurd (let no : Going ≡ Finished = cc in cc);
+      }
 
 -- ---- its last one
 
@@ -241,14 +224,8 @@ module _ {D : Type 0} (disk_of : D → Disk) (s : StoreValue D) (runs : is_stopp
   append-busy : ¬ IsIdle s
   append-busy idle = let no : Appending r ≡ Nothing = sym under_way_is ∙ idle in cc
 
-  pub append-works : ¬ (journal_value.IsIdle s.journal)
+  append-works : ¬ (journal_value.IsIdle s.journal)
   append-works idle = subst (λ (h : journal_under_way.UnderWay). IsAppendUnderWay h) idle appends
-
-  append-lent : (records : List Record) (content next : Content)
-      → HoldsWith (disk_in disk_of s) s.journal.place s.journal.under_way (snapshot (standing_in s)) content next
-      → HoldsWith (disk_in disk_of s) s.journal.place s.journal.under_way records content next
-  append-lent records content next holding =
-      append-with (disk_in disk_of s) s.journal.place s.journal.under_way records content next appends holding.holds
 
   append-alone : (under_way : journal_under_way.UnderWay) → IsAppendUnderWay under_way → IsNoCompact under_way
   append-alone journal_work.Nothing is = absurd is
@@ -262,19 +239,18 @@ module _ {D : Type 0} (disk_of : D → Disk) (s : StoreValue D) (runs : is_stopp
   append-place place (journal_work.Append work) is = refl
   append-place place (journal_work.Compact work) is = absurd is
 
-  append-stored : (records : List Record) (j : JournalValue D) (held : StandingValue)
+  append-stored : (j : JournalValue D) (held : StandingValue)
       → standing_after_record (standing_in s) r ≡ Some (standing_of held)
-      → journal.Steps disk_of s.journal records (answers Finished) j → IsHonest (disk_of j.disk) → IsStored disk_of s
+      → JournalSteps disk_of s (answers Finished) j → IsHonest (disk_of j.disk) → IsStored disk_of s
       → IsStored disk_of (record { journal = j; held = held; under_way = Nothing })
-  append-stored records j held follows steps honest stored =
+  append-stored j held follows steps honest stored =
       let means : meaning_of this_edition stored.next ≡ Some (standing_of held) = stored.becomes
       ∙ ap (standing_next (standing_in s)) under_way_is ∙ follows in
       record {
         content = stored.next;
         next = stored.next;
         holding = record {
-          holds = steps.done refl honest stored.content stored.next
-              (append-lent records stored.content stored.next stored.holding);
+          holds = steps.done refl honest stored.content stored.next stored.holding;
           made = subst
               (λ (h : journal_under_way.UnderWay). IsMadeOf h (snapshot (standing_of held)) stored.next stored.next)
               (sym (steps.finished refl)) tt;
@@ -286,11 +262,11 @@ module _ {D : Type 0} (disk_of : D → Disk) (s : StoreValue D) (runs : is_stopp
         form_next = stored.form_next;
       }
 
-  pub append-finished : (records : List Record) (j : JournalValue D) (held : StandingValue)
+  append-finished : (j : JournalValue D) (held : StandingValue)
       → standing_after_record (standing_in s) r ≡ Some (standing_of held)
-      → journal.Steps disk_of s.journal records (answers Finished) j
+      → JournalSteps disk_of s (answers Finished) j
       → Steps disk_of s (answers Finished) (record { journal = j; held = held; under_way = Nothing })
-  append-finished records j held follows steps =
+  append-finished j held follows steps =
       let place = steps.moved refl ∙ append-place s.journal.place s.journal.under_way appends in
       record {
         stopped = (λ same. absurd cc, λ is. absurd (let no : true ≡ false = sym is ∙ runs in cc));
@@ -318,12 +294,11 @@ module _ {D : Type 0} (disk_of : D → Disk) (s : StoreValue D) (runs : is_stopp
             let calls : calls_left s ≡ left_of s.journal.under_way = ap (calls_with s) under_way_is in
             omega (arith, exact, none, calls));
         any_moment = λ honest stored after follows.
-            moments disk_of s runs append-busy append-works records (append-lent records) (answers Finished) j steps
-            honest stored after follows;
-        stored = λ honest stored. append-stored records j held follows steps honest stored;
+            moments disk_of s runs append-busy append-works (answers Finished) j steps honest stored after follows;
+        stored = λ honest stored. append-stored j held follows steps honest stored;
         kept = λ same honest stored image left.
             stored-image disk_of (record { journal = j; held = held; under_way = Nothing }) refl
-            (append-stored records j held follows steps honest stored) image left;
+            (append-stored j held follows steps honest stored) image left;
       }
 
 -- of a compaction, after which the record is under way
@@ -333,15 +308,10 @@ module _ {D : Type 0} (disk_of : D → Disk) (s : StoreValue D) (runs : is_stopp
   compaction-busy : ¬ IsIdle s
   compaction-busy idle = let no : Compacting r ≡ Nothing = sym under_way_is ∙ idle in cc
 
-  pub compaction-works : ¬ (journal_value.IsIdle s.journal)
+  compaction-works : ¬ (journal_value.IsIdle s.journal)
   compaction-works idle =
       subst (λ (h : journal_under_way.UnderWay). CompactsWith s.journal.place h (snapshot (standing_in s)))
       idle compacts
-
-  compaction-lent : (content next : Content)
-      → HoldsWith (disk_in disk_of s) s.journal.place s.journal.under_way (snapshot (standing_in s)) content next
-      → HoldsWith (disk_in disk_of s) s.journal.place s.journal.under_way (snapshot (standing_in s)) content next
-  compaction-lent content next holding = holding
 
   -- as many slots as the snapshot has records are used, in the next generation
   compaction-slots : (place : Place) (under_way : journal_under_way.UnderWay) (records : List Record)
@@ -359,9 +329,9 @@ module _ {D : Type 0} (disk_of : D → Disk) (s : StoreValue D) (runs : is_stopp
   compaction-generation place (journal_work.Compact work) records is = ap (λ h. h.generation) (sym is)
 
   module _ (mid : JournalValue D)
-      (steps : journal.Steps disk_of s.journal (snapshot (standing_in s)) (answers Finished) mid) where
+      (steps : JournalSteps disk_of s (answers Finished) mid) where
     -- the journal goes on with a free slot
-    pub compaction-room : mid.place.free ≡ snapshot_length s
+    compaction-room : mid.place.free ≡ snapshot_length s
     compaction-room = ap (λ (p : Place). p.free) (steps.moved refl)
         ∙ compaction-slots s.journal.place s.journal.under_way (snapshot (standing_in s)) compacts
 
@@ -393,7 +363,7 @@ module _ {D : Type 0} (disk_of : D → Disk) (s : StoreValue D) (runs : is_stopp
             form_next = stored.form_next;
           }
 
-      pub compaction-finished : Steps disk_of s (answers Going)
+      compaction-finished : Steps disk_of s (answers Going)
           (record { journal = j; held = s.held; under_way = Appending r })
       compaction-finished = record {
         stopped = (λ same. absurd cc, λ is. absurd (let no : true ≡ false = sym is ∙ runs in cc));
@@ -429,8 +399,7 @@ module _ {D : Type 0} (disk_of : D → Disk) (s : StoreValue D) (runs : is_stopp
         last = λ same. absurd (let no : Going ≡ Finished = cc in cc);
         any_moment = λ honest stored after follows.
             subst (λ (d : Disk). Leaves (disk_in disk_of s) d (StandsForEither (standing_in s) after)) same-disk
-            (moments disk_of s runs compaction-busy compaction-works (snapshot (standing_in s)) compaction-lent
-            (answers Finished) mid steps
+            (moments disk_of s runs compaction-busy compaction-works (answers Finished) mid steps
             (at_rest (disk_of j.disk) same-disk honest) stored after follows);
         stored = λ honest stored. compacted-stored honest stored;
         kept = λ same. absurd (let no : Going ≡ Finished = cc in cc);
@@ -438,86 +407,90 @@ module _ {D : Type 0} (disk_of : D → Disk) (s : StoreValue D) (runs : is_stopp
 
 -- ---- by the invariant of a store
 
-appending-is : (under_way : UnderWay) → IsAppending under_way → (r : Record) × (under_way ≡ Appending r)
-appending-is Nothing is = absurd is
-appending-is (Compacting r) is = absurd is
-appending-is (Appending r) is = (r, refl)
-
-compacting-is : (under_way : UnderWay) → IsCompacting under_way → (r : Record) × (under_way ≡ Compacting r)
-compacting-is Nothing is = absurd is
-compacting-is (Compacting r) is = (r, refl)
-compacting-is (Appending r) is = absurd is
+fits-at : {D : Type 0} (s : StoreValue D) (u : UnderWay) → FitsUnderWay s.journal (standing_in s) s.under_way
+    → s.under_way ≡ u → FitsUnderWay s.journal (standing_in s) u
+fits-at s u fits is = subst (λ (h : UnderWay). FitsUnderWay s.journal (standing_in s) h) is fits
 
 module _ {D : Type 0} (disk_of : D → Disk) (s : StoreValue D)
-    (fits : FitsUnderWay s.journal (standing_in s) s.under_way) where
-  -- what the invariant says of a record that is being appended, and of one that waits
-  pub fits-append : (r : Record) → s.under_way ≡ Appending r → FitsUnderWay s.journal (standing_in s) (Appending r)
-  fits-append r is = subst (λ (h : UnderWay). FitsUnderWay s.journal (standing_in s) h) is fits
+    (fits : FitsUnderWay s.journal (standing_in s) s.under_way) (j : JournalValue D) where
+  -- with nothing under way it is stopped, or makes no call
+  resting : s.under_way ≡ Nothing → (result : Result JournalStep JournalFault) → JournalSteps disk_of s result j
+      → IsErrOf result fault.Stopped ⊎ (result ≡ answers Idle)
+  resting nothing result steps = by (is_stopped s) refl where
+    by : (stopped : Bool) → is_stopped s ≡ stopped → IsErrOf result fault.Stopped ⊎ (result ≡ answers Idle)
+    by true is = inl (steps.stopped.1 is)
+    by false is = inr (steps.idle.1 (is, fits-at s Nothing fits nothing))
 
-  pub fits-compaction : (r : Record) → s.under_way ≡ Compacting r
-      → FitsUnderWay s.journal (standing_in s) (Compacting r)
-  fits-compaction r is = subst (λ (h : UnderWay). FitsUnderWay s.journal (standing_in s) h) is fits
-
-  module _ (is : IsAppending s.under_way) where
-    the-append : (r : Record) × (s.under_way ≡ Appending r)
-    the-append = appending-is s.under_way is
-
-    its-append : FitsUnderWay s.journal (standing_in s) (Appending the-append.0)
-    its-append = fits-append the-append.0 the-append.1
-
-    pub append-failed : (at : JournalFault) (j : JournalValue D) → journal.Steps disk_of s.journal [] (refuses at) j
+  -- the journal's call failed, or a call had failed before
+  pub step-failed : (at : JournalFault) → JournalSteps disk_of s (refuses at) j
+      → Steps disk_of s (refuses at) (record { journal = j; held = s.held; under_way = Nothing })
+  step-failed at steps = by s.under_way refl where
+    by : (u : UnderWay) → s.under_way ≡ u
         → Steps disk_of s (refuses at) (record { journal = j; held = s.held; under_way = Nothing })
-    append-failed at j steps =
-        let r = the-append.0 in
-        let under_way_is = the-append.1 in
-        turn-failed disk_of s its-append.0 (append-busy disk_of s its-append.0 r under_way_is its-append.2)
-        (append-works disk_of s its-append.0 r under_way_is its-append.2) []
-        (append-lent disk_of s its-append.0 r under_way_is its-append.2 []) at j steps
+    by Nothing is = elim (resting is (refuses at) steps) [
+      | inl stopped ↦
+          let named : fault.Stopped ≡ at = cc in
+          let same : s ≡ record { journal = j; held = s.held; under_way = Nothing } =
+          λ i. record { journal = sym (steps.same (inl stopped)) i; held = s.held; under_way = is i } in
+          subst (λ (f : JournalFault). Steps disk_of s (refuses f)
+          (record { journal = j; held = s.held; under_way = Nothing })) named
+          (subst (λ (t : StoreValue D). Steps disk_of s (refuses fault.Stopped) t) same
+          (rests-stopped disk_of s (steps.stopped.0 stopped)))
+      | inr idle ↦ absurd cc
+    ]
+    by (Compacting r) is =
+        let its = fits-at s (Compacting r) fits is in
+        turn-failed disk_of s its.0 (compaction-busy disk_of s its.0 r is its.2)
+        (compaction-works disk_of s its.0 r is its.2) at j steps
+    by (Appending r) is =
+        let its = fits-at s (Appending r) fits is in
+        turn-failed disk_of s its.0 (append-busy disk_of s its.0 r is its.2)
+        (append-works disk_of s its.0 r is its.2) at j steps
 
-    pub append-on : (step : JournalStep) (j : JournalValue D) → step ≢ Finished
-        → journal.Steps disk_of s.journal [] (answers step) j
-        → Steps disk_of s (answers Going) (record s { journal = j })
-    append-on step j other steps =
-        let r = the-append.0 in
-        let under_way_is = the-append.1 in
-        turn-on disk_of s its-append.0 (append-busy disk_of s its-append.0 r under_way_is its-append.2)
-        (append-works disk_of s its-append.0 r under_way_is its-append.2) []
-        (append-lent disk_of s its-append.0 r under_way_is its-append.2 [])
-        (λ j same content next holding.
-        append-with (disk_of j.disk) j.place j.under_way (snapshot (standing_in s)) content next
-        (still-appends s.journal.under_way j.under_way same its-append.2) holding.holds)
-        step j other steps
+  -- its call was not the last one, or none was made
+  goes : (runs : is_stopped s ≡ false) → ¬ IsIdle s → ¬ (journal_value.IsIdle s.journal) → (step : JournalStep)
+      → step ≢ Finished → JournalSteps disk_of s (answers step) j
+      → Steps disk_of s (answers step) (record s { journal = j })
+  goes runs busy at_work Idle other steps = absurd (at_work (steps.idle.0 refl).1)
+  goes runs busy at_work Going other steps = turn-going disk_of s runs busy at_work j steps
+  goes runs busy at_work Finished other steps = absurd (other refl)
 
-  module _ (is : IsCompacting s.under_way) where
-    the-compaction : (r : Record) × (s.under_way ≡ Compacting r)
-    the-compaction = compacting-is s.under_way is
+  pub step-on : (step : JournalStep) → step ≢ Finished → JournalSteps disk_of s (answers step) j
+      → Steps disk_of s (answers step) (record s { journal = j })
+  step-on step other steps = by s.under_way refl where
+    by : (u : UnderWay) → s.under_way ≡ u → Steps disk_of s (answers step) (record s { journal = j })
+    by Nothing is = elim (resting is (answers step) steps) [
+      | inl stopped ↦ absurd cc
+      | inr idle ↦
+          let named : Idle ≡ step = cc in
+          let same : s ≡ record s { journal = j } =
+          λ i. record { journal = sym (steps.same (inr idle)) i; held = s.held; under_way = s.under_way } in
+          subst (λ (x : JournalStep). Steps disk_of s (answers x) (record s { journal = j })) named
+          (subst (λ (t : StoreValue D). Steps disk_of s (answers Idle) t) same
+          (rests-idle disk_of s (steps.idle.0 idle).0 is))
+    ]
+    by (Compacting r) is =
+        let its = fits-at s (Compacting r) fits is in
+        goes its.0 (compaction-busy disk_of s its.0 r is its.2) (compaction-works disk_of s its.0 r is its.2)
+        step other steps
+    by (Appending r) is =
+        let its = fits-at s (Appending r) fits is in
+        goes its.0 (append-busy disk_of s its.0 r is its.2) (append-works disk_of s its.0 r is its.2)
+        step other steps
 
-    its-compaction : FitsUnderWay s.journal (standing_in s) (Compacting the-compaction.0)
-    its-compaction = fits-compaction the-compaction.0 the-compaction.1
+  module _ (r : Record) (steps : JournalSteps disk_of s (answers Finished) j) where
+    -- the record is applied
+    pub step-kept : s.under_way ≡ Appending r → (held : StandingValue)
+        → standing_after_record (standing_in s) r ≡ Some (standing_of held)
+        → Steps disk_of s (answers Finished) (record { journal = j; held = held; under_way = Nothing })
+    step-kept is held follows =
+        let its = fits-at s (Appending r) fits is in
+        append-finished disk_of s its.0 r is its.2 j held follows steps
 
-    -- as its journal is lent the records of the snapshot
-    pub compacts-now : CompactsWith s.journal.place s.journal.under_way (snapshot (standing_in s))
-    compacts-now = its-compaction.2
-
-    pub compaction-failed : (at : JournalFault) (j : JournalValue D)
-        → journal.Steps disk_of s.journal (snapshot (standing_in s)) (refuses at) j
-        → Steps disk_of s (refuses at) (record { journal = j; held = s.held; under_way = Nothing })
-    compaction-failed at j steps =
-        let r = the-compaction.0 in
-        let under_way_is = the-compaction.1 in
-        turn-failed disk_of s its-compaction.0
-        (compaction-busy disk_of s its-compaction.0 r under_way_is its-compaction.2)
-        (compaction-works disk_of s its-compaction.0 r under_way_is its-compaction.2)
-        (snapshot (standing_in s))
-        (compaction-lent disk_of s its-compaction.0 r under_way_is its-compaction.2) at j steps
-
-    pub compaction-on : (step : JournalStep) (j : JournalValue D) → step ≢ Finished
-        → journal.Steps disk_of s.journal (snapshot (standing_in s)) (answers step) j
-        → Steps disk_of s (answers Going) (record s { journal = j })
-    compaction-on step j other steps =
-        let r = the-compaction.0 in
-        let under_way_is = the-compaction.1 in
-        turn-on disk_of s its-compaction.0 (compaction-busy disk_of s its-compaction.0 r under_way_is its-compaction.2)
-        (compaction-works disk_of s its-compaction.0 r under_way_is its-compaction.2)
-        (snapshot (standing_in s)) (compaction-lent disk_of s its-compaction.0 r under_way_is its-compaction.2)
-        (λ j same content next holding. holding) step j other steps
+    -- the record that waited is started
+    pub step-compacted : s.under_way ≡ Compacting r → (k : JournalValue D)
+        → journal.Starts disk_of j (Appends r) (Ok tt) k
+        → Steps disk_of s (answers Going) (record { journal = k; held = s.held; under_way = Appending r })
+    step-compacted is k starts =
+        let its = fits-at s (Compacting r) fits is in
+        compaction-finished disk_of s its.0 r is its.2 j steps k starts

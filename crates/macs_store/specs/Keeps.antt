@@ -24,12 +24,12 @@ use Rattle.macs_store.specs.declared.fault.CommitFault.TheVariants as commit
 
 -- ---- one more change
 
--- no more change can be kept: it is running, all slots are used, and the journal cannot be rewritten
+-- no more change can be kept: it is running, all slots are used, and no compaction is possible
 abbrev pub IsSpent : {D : Type 0} → StoreValue D → Type 0
 IsSpent s = (is_stopped s ≡ false) × (used_slots s ≡ slots) × (generation s ≡ last_generation)
 
 -- how many slots are used after one more change, given how many were used and the standing: if all were used the
--- journal was rewritten with a snapshot
+-- journal was compacted with a snapshot
 abbrev pub slots_with_change : ℕ → Standing → ℕ
 slots_with_change used s = if used == slots then length (snapshot s) + 1 else used + 1
 
@@ -58,7 +58,7 @@ most_calls s = most_with_change (used_slots s) (standing_in s)
 
 -- A call keeps one change, which turns the standing into `after`. Fails with Stopped, then with GenerationsSpent; these
 -- are checked before the work starts, and change nothing. Disk if a device call failed: memory is unchanged, and a
--- power loss leaves the old standing or the new one, in format two. If all slots are used the journal is rewritten
+-- power loss leaves the old standing or the new one, in format two. If all slots are used the journal is compacted
 -- first, with a snapshot of the standing.
 pub record Keeps {D : Type 0} (disk_of : D → disk.Disk) (old : StoreValue D) (after : Standing)
     (result : Result (Unit {0}) JournalFault) (new : StoreValue D) : Type 0 where
@@ -96,7 +96,7 @@ pub record IsCommitOf (old new : disk.Disk) (result : Result (Unit {0}) CommitFa
 -- A call keeps a command and applies it. Fails with Stopped, then with Refused and the first refusal that applies, then
 -- with GenerationsSpent; these are checked before the work starts, and change nothing. Disk if a device call failed:
 -- memory is unchanged, and a power loss leaves the old standing or the one after the command, in format two. If all
--- slots are used the journal is rewritten first, with a snapshot of the standing.
+-- slots are used the journal is compacted first, with a snapshot of the standing.
 pub record Commits {D : Type 0} (disk_of : D → disk.Disk) (old : StoreValue D) (command : Command)
     (result : Result (Unit {0}) CommitFault) (new : StoreValue D) : Type 0 where
   pub stopped : IsErrOf result commit.Stopped ↔ (is_stopped old ≡ true)

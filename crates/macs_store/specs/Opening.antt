@@ -11,7 +11,7 @@ use Rattle.macs_journal.specs.Compacting.{CompactWrites, Compacts, compacted}
 use Rattle.macs_journal.specs.Found.{Content, HasFormat}
 use Rattle.macs_journal.specs.Opening.{StandsFromFirst}
 use Rattle.macs_journal.specs.Recovery.{IsLeftBy, IsRecoverName}
-use Rattle.macs_journal.specs.Rewriting.{IsSettled}
+use Rattle.macs_journal.specs.NewArea.{IsSettled}
 use Rattle.macs_journal.specs.Work.{FailsWith, IsSpared}
 use Rattle.macs_journal.specs.declared.fault.JournalFault.{JournalFault}
 use Rattle.macs_journal.specs.declared.fault.JournalFault.TheVariants as variant
@@ -32,7 +32,7 @@ IsUnfit disk_of disk fault = IsUnfitTo this_edition (disk_of disk).sectors (now 
 abbrev pub OpeningLeaves : Disk → Image → Type 0
 OpeningLeaves old image = MayLeave old image ⊎ StandAlike this_edition (now old).seen image
 
--- the disk has no journal that an opening rewrites
+-- the disk has no journal that an opening migrates
 abbrev pub HasNoneToMigrate : Disk → Type 0
 HasNoneToMigrate old = (c : Content) (s : Standing) → ¬ IsToMigrate this_edition (now old).seen c s
 
@@ -42,12 +42,12 @@ pub record WritesNothing (old new : Disk) : Type 0 where
   pub from_first : StandsFromFirst old new
   pub any_moment : LeavesNothingNew old new
 
--- an image that the disk could leave before, or one with this content, or with that of a journal rewritten with a
--- snapshot of its standing: in the other area, in the next generation and in format two
+-- an image that the disk could leave before, or one with this content, or with that after a compaction with a snapshot
+-- of its standing: in the other area, in the next generation and in format two
 abbrev pub MigrationLeaves : Disk → Content → Standing → Image → Type 0
 MigrationLeaves old c s image = MayLeave old image ⊎ HasEitherJournal c (compacted c (snapshot s)) image
 
--- A journal with this content is rewritten, completely or in part: that is left at any moment, and no sector is touched
+-- A journal with this content is migrated, completely or in part: that is left at any moment, and no sector is touched
 -- except those that a compaction writes to, all in the other area.
 pub record IsMigration (old new : Disk) (c : Content) (s : Standing) : Type 0 where
   pub any_moment : Leaves old new (MigrationLeaves old c s)
@@ -57,8 +57,8 @@ pub record IsMigration (old new : Disk) (c : Content) (s : Standing) : Type 0 wh
 
 -- Its device calls, on a disk that represented this standing: the disk is large enough, and no call failed. On an
 -- honest disk nothing is pending then, the current area is of format two, and no power loss on the way left anything
--- but what it could leave before, or what represents the same standing. If no rewrite is needed nothing is written: the
--- first call is a sync, and those after it only read. Otherwise the journal was rewritten, once.
+-- but what it could leave before, or what represents the same standing. If no migration is needed nothing is written:
+-- the first call is a sync, and those after it only read. Otherwise the journal was migrated, once.
 pub record OpensDisk (old new : Disk) (s : Standing) : Type 0 where
   pub large : least_sectors ≤ old.sectors
   pub works : Works old new
@@ -88,8 +88,8 @@ IsOpenName name = IsRecoverName name ⊎ (name ≡ variant.GenerationsSpent)
 
 -- An opening that fails, and returns the disk. The fault is TooSmall if and only if the disk is too small, and then no
 -- call is made; it is Disk if and only if a device call failed. On an honest disk every other fault is the reason why
--- the disk is unfit, and nothing is written; nor is anything if the fault is Disk and no rewrite was needed. Otherwise
--- the journal was at most rewritten.
+-- the disk is unfit, and nothing is written; nor is anything if the fault is Disk and no migration was needed.
+-- Otherwise the journal was at most migrated.
 pub record RefusesDisk {D : Type 0} (disk_of : D → Disk) (disk left : D) (fault : JournalFault) : Type 0 where
   pub name : IsOpenName fault
   pub small : (fault ≡ variant.TooSmall) ↔ ((disk_of disk).sectors < least_sectors)
@@ -111,7 +111,7 @@ IsStoreOpening disk_of disk (Err refused) = RefusesDisk disk_of disk refused.dis
 
 -- ---- intermediate steps
 
--- A store whose journal was recovered rewrites it with a snapshot of what is in memory, which represents the same
+-- A store whose journal was recovered compacts it with a snapshot of what is in memory, which represents the same
 -- standing; nothing else changes in memory.
 pub record CompactsHeld {D : Type 0} (disk_of : D → Disk) (old : StoreValue D) (result : Result (Unit {0}) JournalFault)
     (new : StoreValue D) : Type 0 where
@@ -121,7 +121,7 @@ pub record CompactsHeld {D : Type 0} (disk_of : D → Disk) (old : StoreValue D)
   pub stands : snapshot_of this_edition (standing_in old).identity (snapshot (standing_in old)) ≡ Some (standing_in old)
 
 -- What becomes of a store that was recovered, depending on whether its records were replayed successfully, and on
--- whether their format requires a rewrite.
+-- whether their format requires a migration.
 abbrev pub TakesUp : {D : Type 0} → (D → Disk) → (is_read is_old : Bool) → StoreValue D → Result (Unit {0}) JournalFault
     → StoreValue D → Type 0
 TakesUp disk_of false is_old old result new = (result ≡ Err variant.BadJournal) × (new ≡ old)

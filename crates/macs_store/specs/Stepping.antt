@@ -21,8 +21,6 @@ use Rattle.macs_store.specs.Standing.{Standing, accept}
 use Rattle.macs_store.specs.Value.{IsIdle, IsStored, StoreValue, calls_left, device_in, disk_in, generation}
 use Rattle.macs_store.specs.Value.{generation_then, is_stopped, slots_then, standing_in, standing_then, used_slots}
 use Rattle.macs_store.specs.declared.fault.CommitFault.{CommitFault}
-use Rattle.macs_store.specs.UnderWay.{UnderWay}
-use Rattle.macs_store.specs.UnderWay.{Appending, Compacting}
 use Rattle.macs_store.specs.declared.fault.CommitFault.TheVariants as commit
 
 -- ---- work is started
@@ -75,16 +73,6 @@ pub record StartsRecord {D : Type 0} (disk_of : D → disk.Disk) (old : StoreVal
       → HasUnderWay disk_of old after new)
 
 -- ---- one device call
-
--- the journal is being rewritten
-abbrev pub IsCompacting : UnderWay → Type 0
-IsCompacting (Compacting r) = Unit {0}
-IsCompacting other = ⊥
-
--- a record is being appended
-abbrev pub IsAppending : UnderWay → Type 0
-IsAppending (Appending r) = Unit {0}
-IsAppending other = ⊥
 
 -- A step of a store: one device call of the work under way. Stopped if and only if a device call failed before, else
 -- Idle if and only if nothing is under way: then no call is made and nothing changes. Disk if and only if the call

@@ -13,7 +13,7 @@ record_kept (kept.Command command) = record_of_accepted command
 record_kept (kept.TxCeiling an ceiling) = record_.TxCeiling an ceiling
 record_kept (kept.RxCeiling sci an ceiling) = record_.RxCeiling sci an ceiling
 
--- nothing, a record that waits until the journal is rewritten with a snapshot, or one that the journal takes
+-- nothing, a record that waits until the journal is compacted with a snapshot, or one that the journal takes
 pub data UnderWay : Type 0 where
   Nothing : UnderWay
   Compacting : Record → UnderWay

@@ -9,8 +9,8 @@ pub enum CommitFault {
     Stopped,
     /// The command does not fit the configuration.
     Refused(Refusal),
-    /// All 256 slots of the journal's current area are used, and its generation is 2^64 - 1: it
-    /// cannot be rewritten. Nothing changes.
+    /// All 256 slots of the journal's current area are used, and its generation is 2^64 - 1: no
+    /// compaction is possible. Nothing changes.
     GenerationsSpent,
     /// A device call failed.
     Disk,

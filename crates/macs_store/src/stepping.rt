@@ -1,32 +1,22 @@
 //! What a store keeps, one device call at a time.
 
-ghost use Rattle.std.specs.Prelude.{◌≡◌, ◌<◌, ◌≤◌, ◌^◌, if◌then◌else◌, IfSome, IsOk, IsSome};
-ghost use Rattle.std.specs.Prelude.{Ok, Err, true, false};
+ghost use Rattle.std.specs.Prelude.{◌≡◌, ◌<◌, ◌≤◌, ◌^◌, IfSome, IsOk, IsSome, true, false};
 ghost use Rattle.macs_config.specs.Numbers.{block_beyond};
-ghost use Rattle.macs_journal.specs.Stepping as journal_steps;
-ghost use Rattle.macs_journal.specs.Stepping.{Compaction, CompactsWith};
-ghost use Rattle.macs_journal.specs.Value as journal_value;
-ghost use Rattle.macs_journal.specs.declared.fault.JournalFault.TheVariants.{Stopped};
-ghost use Rattle.macs_journal.specs.declared.work.JournalStep.TheVariants.{Idle};
 ghost use Rattle.macs_store.specs.UnderWay.{record_kept};
 ghost use Rattle.macs_store.specs.Replay.{standing_after_record};
-ghost use Rattle.macs_store.specs.Snapshot.{snapshot};
 ghost use Rattle.macs_store.specs.Standing.{accept, standing_with_rx_raised};
 ghost use Rattle.macs_store.specs.Standing.{standing_with_tx_raised};
-ghost use Rattle.macs_store.specs.Stepping.{Finishes, IsAppending, IsCompacting};
-ghost use Rattle.macs_store.specs.Stepping.{Starts, StartsCommit, StartsRecord, Steps};
-ghost use Rattle.macs_store.specs.Table.{standing_of};
+ghost use Rattle.macs_store.specs.Stepping.{Finishes, Starts, StartsCommit, StartsRecord, Steps};
 ghost use Rattle.macs_store.specs.Value.{IsIdle, calls_left, is_stopped, standing_in};
 
 use crate::ahead::ahead;
 use crate::fault::CommitFault;
-use crate::standing::Standing;
 use crate::store::Store;
 use crate::under_way::{Kept, UnderWay};
 use macs_config::{Checked, Command};
 use macs_disk::SectorDisk;
 use macs_fields::{An, Pn, Sci};
-use macs_journal::{Journal, JournalFault, JournalStep};
+use macs_journal::{JournalFault, JournalStep};
 use std::mem::replace;
 
 impl<D: SectorDisk> Store<D> {
@@ -95,7 +85,7 @@ impl<D: SectorDisk> Store<D> {
     }
 
     /// Starts work on a record that follows from the standing. If all 256 slots are used the
-    /// journal must be rewritten first.
+    /// journal must be compacted first.
     fn start(&mut self, kept: Kept) -> Result<(), JournalFault>
         requires idle { IsIdle self.old }
         requires follows { IsSome (standing_after_record (standing_in self.old)
@@ -104,7 +94,7 @@ impl<D: SectorDisk> Store<D> {
     {
         if self.journal.is_full() {
             self.standing.facts();
-            start_compaction(&mut self.journal, &self.standing)?;
+            self.journal.start_compact(&self.standing)?;
             self.under_way = UnderWay::Compacting(kept);
         } else {
             self.journal.start_append(&kept.record())?;
@@ -114,17 +104,35 @@ impl<D: SectorDisk> Store<D> {
     }
 
     /// Makes the next device call of the work under way, and none if no work is under way.
-    /// Configuration and ceilings change only when it returns `Finished`. A record that waits for a
-    /// compaction is started by the step after it. Fails with `Stopped`, and with `Disk` if the
+    /// Configuration and ceilings change only when it returns `Finished`. The last call of a
+    /// compaction starts the record that waits for it. Fails with `Stopped`, and with `Disk` if the
     /// call fails: then no work is under way, the standing is unchanged, and a power loss leaves it
     /// with the work or without.
     pub fn step(&mut self) -> Result<JournalStep, JournalFault>
         ensures { Steps D.disk self.old result self.new }
     {
-        match &self.under_way {
-            UnderWay::Nothing => self.rest(),
-            UnderWay::Compacting(_) => self.step_compaction(),
-            UnderWay::Appending(_) => self.step_append(),
+        self.standing.facts();
+        match self.journal.step(&self.standing) {
+            Ok(step) => match step {
+                JournalStep::Finished => match replace(&mut self.under_way, UnderWay::Nothing) {
+                    UnderWay::Nothing => Ok(JournalStep::Finished), // Not reached.
+                    UnderWay::Compacting(kept) => {
+                        self.journal.start_append(&kept.record()).unwrap();
+                        self.under_way = UnderWay::Appending(kept);
+                        Ok(JournalStep::Going)
+                    }
+                    UnderWay::Appending(kept) => {
+                        // A verdict still holds, since the standing is as it was.
+                        self.standing.keep(&kept);
+                        Ok(JournalStep::Finished)
+                    }
+                },
+                _ => Ok(step),
+            },
+            Err(fault) => {
+                self.under_way = UnderWay::Nothing; // The next opening finds the record or not.
+                Err(fault)
+            }
         }
     }
 
@@ -154,98 +162,4 @@ impl<D: SectorDisk> Store<D> {
             UnderWay::Appending(_) => true,
         }
     }
-
-    /// The result of a step if no work is under way.
-    fn rest(&self) -> Result<JournalStep, JournalFault>
-        ensures { result ≡ (if is_stopped self.now then Err Stopped else Ok Idle) }
-    {
-        if self.is_stopped() {
-            return Err(JournalFault::Stopped);
-        }
-        Ok(JournalStep::Idle)
-    }
-
-    /// The next device call of a journal that is being rewritten. After the last one the record is
-    /// under way.
-    fn step_compaction(&mut self) -> Result<JournalStep, JournalFault>
-        requires compacting { IsCompacting self.old.under_way }
-        ensures { Steps D.disk self.old result self.new }
-    {
-        self.standing.facts();
-        match step_with_snapshot(&mut self.journal, &self.standing) {
-            Ok(step) => match step {
-                JournalStep::Finished => {
-                    if let UnderWay::Compacting(kept) = replace(
-                        &mut self.under_way,
-                        UnderWay::Nothing,
-                    ) {
-                        self.journal.start_append(&kept.record()).unwrap();
-                        self.under_way = UnderWay::Appending(kept);
-                    }
-                    Ok(JournalStep::Going)
-                }
-                _ => Ok(JournalStep::Going),
-            },
-            Err(fault) => {
-                self.under_way = UnderWay::Nothing; // The next opening finds what stands.
-                Err(fault)
-            }
-        }
-    }
-
-    /// The next device call of an append. After the last one the record is applied to the standing:
-    /// a command with the verdict of its check, which still holds since the standing has not
-    /// changed.
-    fn step_append(&mut self) -> Result<JournalStep, JournalFault>
-        requires appending { IsAppending self.old.under_way }
-        ensures { Steps D.disk self.old result self.new }
-    {
-        match self.journal.step(&[]) {
-            Ok(step) => match step {
-                JournalStep::Finished => {
-                    if let UnderWay::Appending(kept) = replace(
-                        &mut self.under_way,
-                        UnderWay::Nothing,
-                    ) {
-                        self.standing.keep(&kept);
-                    }
-                    Ok(JournalStep::Finished)
-                }
-                _ => Ok(JournalStep::Going), // What stands is as it was.
-            },
-            Err(fault) => {
-                self.under_way = UnderWay::Nothing; // The next opening finds the record or not.
-                Err(fault)
-            }
-        }
-    }
-}
-
-/// Starts a compaction, with a snapshot of the standing.
-fn start_compaction<D: SectorDisk>(
-    journal: &mut Journal<D>,
-    standing: &Standing,
-) -> Result<(), JournalFault>
-    requires idle { journal_value.IsIdle journal.old }
-    ensures { journal_steps.Starts D.disk journal.old
-        (Compaction (snapshot (standing_of standing.now)))
-        result journal.new }
-{
-    standing.facts();
-    journal.start_compact(standing)
-}
-
-/// The next device call of a journal that is being rewritten with a snapshot of the standing: the
-/// record whose body it writes is made for that call.
-fn step_with_snapshot<D: SectorDisk>(
-    journal: &mut Journal<D>,
-    standing: &Standing,
-) -> Result<JournalStep, JournalFault>
-    requires compacts { CompactsWith journal.old.place journal.old.under_way
-        (snapshot (standing_of standing.now)) }
-    ensures { journal_steps.Steps D.disk journal.old (snapshot (standing_of standing.now)) result
-        journal.new }
-{
-    standing.facts();
-    journal.step_from(standing)
 }

@@ -25,7 +25,7 @@ use std::marker::Model;
 
 /// The configuration of an endpoint and the ceilings of its packet numbers, as they are on its
 /// disk. A change is in memory only after its record is durable. If all 256 slots of the journal's
-/// current area are used the journal is rewritten in the other area, with a snapshot of both,
+/// current area are used the journal is compacted in the other area, with a snapshot of both,
 /// before it takes the next record. After a device fault each call fails with `Stopped` until the
 /// disk is opened again.
 #[derive(Drop)]

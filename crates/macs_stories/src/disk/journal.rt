@@ -76,7 +76,7 @@ fn append(journal: &mut Played, record: &Record, answer: &mut Answer) {
 
 fn compact(journal: &mut Played, records: &Records, answer: &mut Answer) {
     if journal.is_idle() && !records.is_empty() {
-        answer.done(journal.compact(records.as_slice()));
+        answer.done(journal.compact(&records.as_slice()));
     } else {
         answer.word(NOT_NOW);
     }
@@ -103,8 +103,8 @@ fn start(journal: &mut Played, work: &Work, answer: &mut Answer) {
 
 /// Makes a step, to which these records are lent.
 fn step(journal: &mut Played, lent: &[Record], answer: &mut Answer) {
-    if journal.may_lend(lent) {
-        tell_step(journal.step(lent), answer);
+    if journal.may_lend(&lent) {
+        tell_step(journal.step(&lent), answer);
     } else {
         answer.word(NOT_NOW);
     }

@@ -9,7 +9,7 @@ use Rattle.macs_record.specs.Settings.{default_settings}
 use Rattle.macs_journal.specs.Areas.{gate, gates, head_body, slot_body}
 use Rattle.macs_journal.specs.Formatting.{IsNewOrNone, first_head}
 use Rattle.macs_journal.specs.Found.{IsNotFormatted}
-use Rattle.macs_journal.specs.Rewriting.{AreClosed, IsNoOpenGate, IsOldOrOpening}
+use Rattle.macs_journal.specs.NewArea.{AreClosed, IsNoOpenGate, IsOldOrOpening}
 use Rattle.macs_journal.specs.Work.{IsSpared}
 use Rattle.macs_journal.proofs.HeadOpened.{open_gate-opens}
 use Rattle.macs_journal.proofs.Closing.{leaves-bodies, leaves-closing, gates-last, leaves-first, ready-first}

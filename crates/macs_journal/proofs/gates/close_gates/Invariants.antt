@@ -1,6 +1,6 @@
 use Rattle.std.proofs.Common.{◌≡◌, ℕ}
 use Rattle.macs_disk.specs.Disk.{IsHonest, Works, now}
-use Rattle.macs_journal.specs.Rewriting.{AreClosed, IsNoOpenGate}
+use Rattle.macs_journal.specs.NewArea.{AreClosed, IsNoOpenGate}
 use Rattle.macs_journal.specs.Work.{IsSpared}
 use Rattle.macs_journal.proofs.gates.close_gates.Given as goal
 

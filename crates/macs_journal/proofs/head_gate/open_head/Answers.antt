@@ -5,7 +5,7 @@ use Rattle.macs_disk.specs.Runs.{Leaves, LeavesNothingNew}
 use Rattle.macs_disk.proofs.Calls.{sync-leaves}
 use Rattle.macs_disk.proofs.Moments.{Leaves-call, Leaves-weaker, Works-on}
 use Rattle.macs_journal.specs.Areas.{gate}
-use Rattle.macs_journal.specs.Rewriting.{IsOldOrOpening}
+use Rattle.macs_journal.specs.NewArea.{IsOldOrOpening}
 use Rattle.macs_journal.specs.Work.{IsSpared}
 use Rattle.macs_journal.proofs.Appends.{wrote, sync-image}
 use Rattle.macs_journal.proofs.HeadOpened.{opening-image, synced-settled}

@@ -17,13 +17,13 @@ module _ (g : Over) (c : After-is_full g) where
   idle : IsIdle old
   idle = rw (← c.self.view_is) at c.requires.idle
 
-pub returns-in_ok-start_compaction : goal.returns-in_ok-start_compaction
-returns-in_ok-start_compaction g c =
-    let at = (goal.at.returns-in_ok-start_compaction g c).After-is_full in
+pub returns-in_ok-start_compact : goal.returns-in_ok-start_compact
+returns-in_ok-start_compact g c =
+    let at = (goal.at.returns-in_ok-start_compact g c).After-is_full in
     rw (← c.self.view_is)
     (compaction-started g.D.SectorDisk.disk (old g at) (idle g at) (record_kept c.args.kept)
     (c.is_full.ensures.full.0 c.if-is_full.true) c.facts.ensures.stands
-    c.start_compaction.new.journal c.in_ok-start_compaction.ensures)
+    c.start_compact.new.self c.in_ok-start_compact.ensures)
 
 pub returns-in_ok-start_append : goal.returns-in_ok-start_append
 returns-in_ok-start_append g c =
@@ -33,15 +33,15 @@ returns-in_ok-start_append g c =
     (c.is_full.ensures.room c.if-is_full.false)
     c.start_append.new.self (rw c.record.ensures at c.in_ok-start_append.ensures))
 
-pub returns-in_err-start_compaction : goal.returns-in_err-start_compaction
-returns-in_err-start_compaction g c =
-    let at = (goal.at.returns-in_err-start_compaction g c).After-is_full in
+pub returns-in_err-start_compact : goal.returns-in_err-start_compact
+returns-in_err-start_compact g c =
+    let at = (goal.at.returns-in_err-start_compact g c).After-is_full in
     let risen = err_from_is_err_and c.from_residual.result c.from_residual.ensures.1 in
     rw (risen.1, risen.2)
     (rw (← c.self.view_is)
     (compaction-refused g.D.SectorDisk.disk (old g at) (idle g at) (record_kept c.args.kept)
     (c.is_full.ensures.full.0 c.if-is_full.true) c.facts.ensures.stands
-    c.in_err-start_compaction.field-0.0 c.start_compaction.new.journal c.in_err-start_compaction.ensures))
+    c.in_err-start_compact.field-0.0 c.start_compact.new.self c.in_err-start_compact.ensures))
 
 pub returns-in_err-start_append : goal.returns-in_err-start_append
 returns-in_err-start_append g c =

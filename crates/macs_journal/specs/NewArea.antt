@@ -1,4 +1,4 @@
--- A rewritten area: its gates closed, its bodies written, and its head opened.
+-- An area written by a compaction or a format: its gates closed, its bodies written, and its head opened.
 use Rattle.std.specs.Prelude.{◌≡◌, ◌≢◌, ◌<◌, ◌≤◌, ◌⊎◌, ◌+◌, ℕ, false, List, slice_get, Some}
 use Rattle.macs_disk.specs.States.{DiskState, Image, IsImage}
 use Rattle.macs_record.specs.Decoding.{IsSectorOf}
@@ -46,8 +46,8 @@ IsOldOrOpening old area image = IsImage old image ⊎ ((i : ℕ) → i ≢ gate 
 
 -- ---- all of it
 
--- the gates of a rewritten area: that of its head is open, and those of slots that read open are closed, each exactly
--- as it was written
+-- the gates of a new area: that of its head is open, and those of slots that read open are closed, each exactly as it
+-- was written
 pub record HasNewGates (old new : Image) (area : ℕ) : Type 0 where
   pub head : new (gate area 0) ≡ open_gate
   pub slot : (slot : ℕ) → slot < slots → IsGateOpen old area (slot + 1) → new (gate area (slot + 1)) ≡ closed_gate

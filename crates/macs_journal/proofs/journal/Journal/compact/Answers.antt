@@ -1,6 +1,6 @@
 use Rattle.std.proofs.lemmas.Result.{err_from_is_err_and}
 use Rattle.macs_journal.proofs.Compacting.{begun-compacts, is-begun, unbegun-compacts}
-use Rattle.macs_journal.proofs.journal.Journal.compact_from.Goals as goal
+use Rattle.macs_journal.proofs.journal.Journal.compact.Goals as goal
 
 pub finish_compact-requires : goal.finish_compact-requires
 finish_compact-requires g c =

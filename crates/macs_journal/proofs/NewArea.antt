@@ -13,8 +13,8 @@ use Rattle.macs_journal.specs.Appending.{HasEitherJournal, IsReady}
 use Rattle.macs_journal.specs.Areas.{gate, gates, head_body, other_area, slot_body, slots}
 use Rattle.macs_journal.specs.Compacting.{CompactWrites, compacted, next_head}
 use Rattle.macs_journal.specs.Found.{Content, HasJournal, IsGateOpen, IsPast}
-use Rattle.macs_journal.specs.Rewriting.{AreBodies, AreClosed, HasNewGates, IsNoBody, IsNoOpenGate, IsOldOrOpening}
-use Rattle.macs_journal.specs.Rewriting.{IsSettled, IsShut}
+use Rattle.macs_journal.specs.NewArea.{AreBodies, AreClosed, HasNewGates, IsNoBody, IsNoOpenGate, IsOldOrOpening}
+use Rattle.macs_journal.specs.NewArea.{IsSettled, IsShut}
 use Rattle.macs_journal.specs.Work.{IsSpared}
 use Rattle.macs_journal.proofs.Appends.{open_or_closed}
 use Rattle.macs_journal.proofs.Current.{alone}
