@@ -14,11 +14,8 @@ use Rattle.macs_headline.proofs.Accepted.{no-refusal}
 use Rattle.macs_headline.proofs.Changes.{Begins, BeginsAndStops, Breaks, Change, Completes, Delivers, Drops, HoldsBack}
 use Rattle.macs_headline.proofs.Changes.{Obeys, Queues, Sends, Stays, Stops, change-of}
 use Rattle.macs_headline.proofs.Commands.{waits-from}
-use Rattle.macs_headline.proofs.Ledger.{some_one}
+use Rattle.macs_headline.proofs.Ledger.{none_some, some_one}
 use Rattle.macs_headline.proofs.LifeEnds.{IsTaken, by-end}
-
-none_some : (c : Command) → ◌≡◌ {A = Option Command} None (Some c) → ⊥
-none_some c is = cc
 
 -- ---- what is under way after an answer
 

@@ -22,12 +22,10 @@ use Rattle.macs_endpoint.specs.Value.{EndpointValue, IsAtRest, IsBacked, IsKeepi
 use Rattle.macs_endpoint.specs.Value.{disk_in, state_of}
 use Rattle.macs_headline.proofs.Changes.{Begins, BeginsAndStops, Breaks, Change, Completes, Delivers, Drops, HoldsBack}
 use Rattle.macs_headline.proofs.Changes.{Obeys, Queues, Sends, Stays, Stops, change-of}
+use Rattle.macs_headline.proofs.Ledger.{none_some}
 use Rattle.macs_headline.proofs.LifeEnds.{by-end}
 
 -- ---- what is under way
-
-pub none_under_way : (c : Command) → ◌≡◌ {A = Option Command} None (Some c) → ⊥
-none_under_way c is = cc
 
 -- while the endpoint runs, a command is under way only where it is the first that waits
 pub record IsSettled (s : State) : Type 0 where
@@ -41,11 +39,11 @@ module _ {D : Type 0} (e : EndpointValue D) (logs : Logs) where
   by_work : IsAtRest e ⊎ (IsReserving e ⊎ IsKeeping e) → IsSettled (state_of e logs)
   by_work (inl at) = record {
     alone = λ running none. at.under_way running;
-    first = λ running c hand. absurd (none_under_way c (sym (at.under_way running) ∙ hand));
+    first = λ running c hand. absurd (none_some c (sym (at.under_way running) ∙ hand));
   }
   by_work (inr (inl at)) = record {
     alone = λ running none. at.under_way;
-    first = λ running c hand. absurd (none_under_way c (sym at.under_way ∙ hand));
+    first = λ running c hand. absurd (none_some c (sym at.under_way ∙ hand));
   }
   by_work (inr (inr at)) = record {
     alone = λ running none. absurd (none_waits at.first at.rest (sym at.waiting ∙ none));
@@ -119,7 +117,7 @@ module _ (edition : Edition) (sectors : ℕ) (image : Image) where
     restart = elim fits.restart [
       | inl up ↦ inl (resumes_alike s (state_with_under_way s command) (opened_state fits.found s.logs)
           (all_alike s s.stopped (Some command) s.waiting) up)
-      | inr made ↦ absurd (none_under_way made.0 (sym idle ∙ made.2))
+      | inr made ↦ absurd (none_some made.0 (sym idle ∙ made.2))
     ];
   }
 
@@ -205,7 +203,7 @@ module _ (edition : Edition) (sectors : ℕ) (image : Image) where
             (config, ok, refl),
             resumes_alike later mid (opened_state fits.found s.logs) (all_alike later s.stopped None s.waiting) up,
           )
-          | inr made ↦ absurd (none_under_way made.0 made.2)
+          | inr made ↦ absurd (none_some made.0 made.2)
         ];
       }
 
@@ -219,7 +217,7 @@ module _ (edition : Edition) (sectors : ℕ) (image : Image) where
         restart = elim fits.restart [
           | inl up ↦ inl (resumes_alike later s (opened_state fits.found s.logs)
               (all_alike later s.stopped s.under_way s.waiting) up)
-          | inr made ↦ absurd (none_under_way made.0 made.2)
+          | inr made ↦ absurd (none_some made.0 made.2)
         ];
       }
 

@@ -15,12 +15,9 @@ use Rattle.macs_headline.specs.History.{logs_of, state_at_end}
 use Rattle.macs_headline.proofs.Changes.{Begins, BeginsAndStops, Breaks, Change, Completes, Delivers, Drops, HoldsBack}
 use Rattle.macs_headline.proofs.Changes.{Obeys, Queues, Sends, Stays, Stops, change-of}
 use Rattle.macs_headline.proofs.Commands.{waits-from}
-use Rattle.macs_headline.proofs.Ledger.{some_one}
+use Rattle.macs_headline.proofs.Ledger.{none_some, some_one}
 use Rattle.macs_headline.proofs.LifeEnds.{IsTaken, by-end}
 use Rattle.macs_headline.proofs.Lists.{contains-first, contains-later}
-
-pub none_some : (c : Command) → ◌≡◌ {A = Option Command} None (Some c) → ⊥
-none_some c is = cc
 
 -- one more that waits leaves the first one
 pub first_on : (waiting : List Waiting) (ticket : ℕ) (c d : Command) → first_command waiting ≡ Some d
