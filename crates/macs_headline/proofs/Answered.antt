@@ -3,6 +3,7 @@ use Rattle.std.proofs.Common.{◌≡◌, ◌++◌, inl, inr, ℕ, List, [], ◌�
 use Rattle.std.proofs.Common.{append_assoc}
 use Rattle.std.specs.Prelude.{Contains}
 use Rattle.std.specs.List.{AllByRecursion}
+use Rattle.std.proofs.lemmas.List.Elements.{Contains-append_right, Contains-append_cases}
 use Rattle.macs_frame.specs.Tag.{tag_of}
 use Rattle.macs_config.specs.Config.{Edition}
 use Rattle.macs_disk.specs.States.{Image}
@@ -26,7 +27,7 @@ use Rattle.macs_headline.proofs.Chains.{lead-on}
 use Rattle.macs_headline.proofs.Deliveries.{delivered}
 use Rattle.macs_headline.proofs.Effects.{core, effect-of}
 use Rattle.macs_headline.proofs.Histories.{sound-moment}
-use Rattle.macs_headline.proofs.Lists.{all-on, contains-rear, contains-cases, contains-either, contains-first}
+use Rattle.macs_headline.proofs.Lists.{all-on, contains-cases, contains-first}
 use Rattle.macs_headline.proofs.Lists.{contains-none, not-twice}
 use Rattle.macs_headline.proofs.Logs.{held-on, logs_in, nothing-forgotten, steps-hold}
 use Rattle.macs_headline.proofs.Numbers.{given-apart, given-below, ok-apart, used-below}
@@ -151,7 +152,7 @@ module _ (sectors : ℕ) (lives : List Life) (x : Exchange) (whole : Contains (e
       → before ++ more ≡ lives → Contains (exchanges_of_lives more) x → WasAnswered sectors lives x (logs_of new)
   by_lives before old history [] new h there among = absurd (contains-none _ among)
   by_lives before old history (life ∷ more) new h there among =
-      elim (contains-either (exchanges_in life) (exchanges_of_lives more) x among) [
+      elim (Contains-append_cases (exchanges_in life) (exchanges_of_lives more) x among) [
         | inl here ↦ held-later (logs_of h.0) (logs_of new) (nothing-forgotten sectors h.0 new more h.2)
             (by_life before old history life h.0 h.1 more there here)
         | inr later ↦ by_lives (before ++ life ∷ []) h.0 (history-on sectors before old life h.0 history h.1)
@@ -184,7 +185,7 @@ pub given_held : (old new : Logs) (d : Delivery) (rest : List Delivery) → AreH
     → Contains new.given d
 given_held old new d rest held joins =
     subst (λ (given : List Delivery). Contains given d) held.given
-    (contains-rear held.given_since old.given d
+    (Contains-append_right held.given_since old.given d
     (subst (λ (given : List Delivery). Contains given d) (sym joins) (contains-first d rest)))
 
 module _ (sectors : ℕ) (lives : List Life) (logs : Logs) (frame : List ℕ) (kind : Kind) (out : List ℕ)
@@ -251,7 +252,7 @@ pub used_held : (old new : Logs) (u : Use) (rest : List Use) → AreHeldIn old n
     → Contains new.used u
 used_held old new u rest held joins =
     subst (λ (used : List Use). Contains used u) held.used
-    (contains-rear held.used_since old.used u
+    (Contains-append_right held.used_since old.used u
     (subst (λ (used : List Use). Contains used u) (sym joins) (contains-first u rest)))
 
 pub written-once : (sectors : ℕ) → WrittenOnce sectors

@@ -6,6 +6,7 @@ use Rattle.macs_disk.specs.Disk.{Disk, IsHonest, MayLeave, now}
 use Rattle.macs_disk.specs.Fuses.{fused_disk}
 use Rattle.macs_disk.specs.States.{DiskState, Image, IsImage, IsSound}
 use Rattle.std.specs.Prelude.{Contains}
+use Rattle.std.proofs.lemmas.List.Elements.{Contains-append_right, Contains-append_cases, Contains-append_left}
 use Rattle.macs_endpoint.specs.Calls.{IsCall}
 use Rattle.macs_endpoint.specs.Lives.{Lives, Transition, exchange_of}
 use Rattle.macs_endpoint.specs.State.{Call}
@@ -21,7 +22,7 @@ use Rattle.macs_headline.specs.Deeds.{OpeningCut, PassingOn, Refusing, lives_of_
 use Rattle.macs_headline.specs.History.{Blank, FitsPast, IsHistory, LeadOn, Life, Past}
 use Rattle.macs_headline.proofs.Formats.{format-answered, format-cut}
 use Rattle.macs_headline.proofs.Living.{life-cut, life-ended, opening-cut, opening-refused}
-use Rattle.macs_headline.proofs.Lists.{contains-rear, contains-cases, contains-either, contains-front}
+use Rattle.macs_headline.proofs.Lists.{contains-cases}
 use Rattle.macs_headline.proofs.Lists.{contains-map, contains-none}
 use Rattle.macs_headline.proofs.Losses.{IsCovered, LeadTo, lead-nowhere, one-image}
 
@@ -208,13 +209,13 @@ pub exchanges-on : (lives more : List Life) (e : Exchange)
 exchanges-on [] more e (inl among) = absurd (contains-none e among)
 exchanges-on [] more e (inr among) = among
 exchanges-on (life ∷ lives) more e (inl among) =
-    elim (contains-either (exchanges_in life) (exchanges_of_lives lives) e among) [
-      | inl here ↦ contains-front (exchanges_in life) (exchanges_of_lives (lives ++ more)) e here
-      | inr later ↦ contains-rear (exchanges_in life) (exchanges_of_lives (lives ++ more)) e
+    elim (Contains-append_cases (exchanges_in life) (exchanges_of_lives lives) e among) [
+      | inl here ↦ Contains-append_left (exchanges_in life) (exchanges_of_lives (lives ++ more)) e here
+      | inr later ↦ Contains-append_right (exchanges_in life) (exchanges_of_lives (lives ++ more)) e
           (exchanges-on lives more e (inl later))
     ]
 exchanges-on (life ∷ lives) more e (inr among) =
-    contains-rear (exchanges_in life) (exchanges_of_lives (lives ++ more)) e (exchanges-on lives more e (inr among))
+    Contains-append_right (exchanges_in life) (exchanges_of_lives (lives ++ more)) e (exchanges-on lives more e (inr among))
 
 module _ {D : Type 0} (disk_of : D → Disk) where
   -- those of one deed
@@ -224,7 +225,7 @@ module _ {D : Type 0} (disk_of : D → Disk) where
       → Contains (exchanges_of_lives (lives_of_deed seen deed)) (exchange_of turn)
   by_one seen deed first last turns cut turn same among =
       subst (λ (d : Deed D). Contains (exchanges_of_lives (lives_of_deed seen d)) (exchange_of turn)) (sym same)
-      (contains-front (map exchange_of turns) [] (exchange_of turn) (contains-map exchange_of turns turn among))
+      (Contains-append_left (map exchange_of turns) [] (exchange_of turn) (contains-map exchange_of turns turn among))
 
   pub chains-answer : ChainsAnswer disk_of
   chains-answer old [] link first last turns cut turn among same here = absurd (contains-none link among)

@@ -1,15 +1,10 @@
 -- Work on what is under way at the end of a life began in a call that may begin it, and it is accepted.
-use Rattle.std.proofs.Common.{◌≡◌, ◌⊎◌, ◌&&◌, inl, inr, ℕ, Bool, true, false, cond, not, is_ok, List, [], ◌∷◌, Option}
-use Rattle.std.proofs.Common.{Some, None, refl, sym, ◌∙◌, ap, subst}
-use Rattle.std.proofs.lemmas.Bool.{false≢true}
-use Rattle.macs_config.specs.Apply.{apply}
+use Rattle.std.proofs.Common.{◌≡◌, inl, inr, ℕ, List, [], ◌∷◌, Option, Some, None, refl, sym, ◌∙◌, ap, subst}
 use Rattle.macs_config.specs.declared.command.Command.{Command}
 use Rattle.macs_endpoint.specs.Queue.{first_command}
-use Rattle.macs_endpoint.specs.Restart.{opened_state, state_taking_alone, state_taking_first}
+use Rattle.macs_endpoint.specs.Restart.{opened_state}
 use Rattle.macs_endpoint.specs.declared.queue.Waiting.{Waiting}
-use Rattle.macs_endpoint.specs.State.{Advances, Call, Commands, Protects, Receives, Refills, Reply, State, Submits}
-use Rattle.macs_endpoint.specs.State.{state_with_under_way}
-use Rattle.macs_endpoint.specs.State.{Rests}
+use Rattle.macs_endpoint.specs.State.{Call, Commands, Reply, State, state_with_under_way}
 use Rattle.macs_endpoint.specs.Step.{Exchange, Step, Steps, TakesUp}
 use Rattle.macs_headline.specs.CommandUnderWay.{UnderWayWasBegun, MayBegin, WasBegun}
 use Rattle.macs_headline.specs.Commands.{waiting_at_end}
@@ -19,10 +14,8 @@ use Rattle.macs_headline.proofs.Accepted.{no-refusal}
 use Rattle.macs_headline.proofs.Changes.{Begins, BeginsAndStops, Breaks, Change, Completes, Delivers, Drops, HoldsBack}
 use Rattle.macs_headline.proofs.Changes.{Obeys, Queues, Sends, Stays, Stops, change-of}
 use Rattle.macs_headline.proofs.Commands.{waits-from}
-use Rattle.macs_headline.proofs.Ledger.{some_one}
-
-none_some : (c : Command) → ◌≡◌ {A = Option Command} None (Some c) → ⊥
-none_some c is = cc
+use Rattle.macs_headline.proofs.Ledger.{none_some, some_one}
+use Rattle.macs_headline.proofs.LifeEnds.{IsTaken, by-end}
 
 -- ---- what is under way after an answer
 
@@ -75,63 +68,27 @@ by_steps old (e ∷ exchanges) new (mid, step, steps) was =
 
 -- ---- the end of a life
 
-and_right : (x y : Bool) → (x && y) ≡ true → y ≡ true
-and_right true y is = is
-and_right false y is = absurd (false≢true is)
-
-not_left : (x y : Bool) → (not x && y) ≡ true → x ≡ false
-not_left true y is = absurd (false≢true is)
-not_left false y is = refl
-
 module _ (exchanges : List Exchange) (s : State) (waits : s.waiting ≡ waiting_at_end exchanges)
     (accepted : IsAccepted s) where
-  -- under way after the last answer
-  by_answers : (cut : Option Call) (c : Command) → s.under_way ≡ Some c → WasBegun exchanges s cut c
-  by_answers cut c is = record { begun = inl is; accepted = accepted c is }
-
-  -- or taken in the call that is cut short
-  either_hand : (test : Bool) (d c : Command) → (cond test (state_with_under_way s d) s).under_way ≡ Some c
-      → (s.under_way ≡ Some c) ⊎ ((test ≡ true) × (d ≡ c))
-  either_hand true d c is = inr (refl, some_one (Some d) d c refl is)
-  either_hand false d c is = inl is
-
-  taken : (cut : Option Call) (d c : Command) → MayBegin cut (waiting_at_end exchanges) d
-      → (cond (not s.stopped && is_ok (apply s.edition s.identity s.config d)) (state_with_under_way s d) s).under_way
-      ≡ Some c → WasBegun exchanges s cut c
-  taken cut d c may is = elim (either_hand (not s.stopped && is_ok (apply s.edition s.identity s.config d)) d c is) [
-    | inl hand ↦ by_answers cut c hand
-    | inr one ↦
-        let accepts = and_right (not s.stopped) (is_ok (apply s.edition s.identity s.config d)) one.0 in
-        let running = not_left s.stopped (is_ok (apply s.edition s.identity s.config d)) one.0 in
-        subst (λ (c : Command). WasBegun exchanges s cut c) one.1
-        (record { begun = inr (running, may); accepted = no-refusal s.edition s.identity s.config d accepts })
+  -- the call that is cut short may begin what it takes
+  may_begin : (cut : Option Call) (c : Command) → IsTaken s cut c → MayBegin cut (waiting_at_end exchanges) c
+  may_begin cut c taken = elim taken.how [
+    | inl own ↦ subst (λ (cut : Option Call). MayBegin cut (waiting_at_end exchanges) c) (sym own.0)
+        (subst (λ (waiting : List Waiting). MayBegin (Some (Commands c)) waiting c) (sym own.1 ∙ waits) refl)
+    | inr queued ↦
+        let there = queued.2 in
+        subst (λ (cut : Option Call). MayBegin cut (waiting_at_end exchanges) c) (sym queued.0)
+        (sym (ap first_command waits) ∙ ap first_command there.2 ∙ ap (λ (c : Command). Some c) there.3)
   ]
 
-  alone : (d : Command) (waiting : List Waiting) (c : Command) → s.waiting ≡ waiting
-      → (state_taking_alone s d waiting).under_way ≡ Some c
-      → WasBegun exchanges s (Some (Commands d)) c
-  alone d [] c none is =
-      taken (Some (Commands d)) d c
-      (subst (λ (waiting : List Waiting). MayBegin (Some (Commands d)) waiting d) (sym none ∙ waits) refl) is
-  alone d (first ∷ rest) c some is = by_answers (Some (Commands d)) c is
-
-  first_one : (under_way : Option Command) (waiting : List Waiting) (c : Command) → s.waiting ≡ waiting
-      → (state_taking_first s under_way waiting).under_way ≡ Some c
-      → WasBegun exchanges s (Some Advances) c
-  first_one None [] c none is = by_answers (Some Advances) c is
-  first_one None (first ∷ rest) c waiting is =
-      taken (Some Advances) first.command c (sym (ap first_command waits) ∙ ap first_command waiting) is
-  first_one (Some d) waiting c some is = by_answers (Some Advances) c is
-
+  -- under way after the last answer, or taken in that call
   at_end : (cut : Option Call) (c : Command) → (state_at_end s cut).under_way ≡ Some c → WasBegun exchanges s cut c
-  at_end None c is = by_answers None c is
-  at_end (Some (Commands d)) c is = alone d s.waiting c refl is
-  at_end (Some Refills) c is = by_answers (Some Refills) c is
-  at_end (Some Rests) c is = by_answers (Some Rests) c is
-  at_end (Some (Submits d)) c is = by_answers (Some (Submits d)) c is
-  at_end (Some Advances) c is = first_one s.under_way s.waiting c refl is
-  at_end (Some (Protects plain)) c is = by_answers (Some (Protects plain)) c is
-  at_end (Some (Receives frame)) c is = by_answers (Some (Receives frame)) c is
+  at_end cut c = by-end (λ t. t.under_way ≡ Some c → WasBegun exchanges s cut c) s
+      (λ hand. record { begun = inl hand; accepted = accepted c hand }) cut
+      (λ d taken is. subst (λ (c : Command). WasBegun exchanges s cut c) (some_one (Some d) d c refl is) (record {
+        begun = inr (taken.running, may_begin cut d taken);
+        accepted = no-refusal s.edition s.identity s.config d taken.accepts;
+      }))
 
 pub under-way-was-begun : (sectors : ℕ) → UnderWayWasBegun sectors
 under-way-was-begun sectors last m cut command is =

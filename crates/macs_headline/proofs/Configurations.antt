@@ -1,11 +1,10 @@
 -- What is found after all lives is what their kept commands make of the first configuration, under the identity of the
 -- `format` that answered Ok.
-use Rattle.std.proofs.Common.{◌≡◌, ◌++◌, inl, inr, ℕ, Bool, true, false, List, [], ◌∷◌, Option, Some, None, Ok, refl}
-use Rattle.std.proofs.Common.{sym, ◌∙◌, subst, append-nil, append_assoc}
+use Rattle.std.proofs.Common.{◌≡◌, ◌++◌, inl, inr, ℕ, Bool, true, false, List, [], ◌∷◌, Option, Ok, refl, sym, ◌∙◌}
+use Rattle.std.proofs.Common.{subst, append-nil, append_assoc}
 use Rattle.std.specs.Prelude.{Contains}
 use Rattle.macs_config.specs.Config.{Config, Edition, default}
 use Rattle.macs_config.specs.Identity.{Identity}
-use Rattle.macs_config.specs.declared.command.Command.{Command}
 use Rattle.macs_disk.specs.States.{Image}
 use Rattle.macs_store.specs.Found.{StandingIs}
 use Rattle.macs_store.specs.Standing.{Standing}
@@ -24,6 +23,7 @@ use Rattle.macs_headline.proofs.Commands.{commands-kept}
 use Rattle.macs_headline.proofs.HandedIn.{under-way-was-given}
 use Rattle.macs_headline.proofs.Histories.{fits-restart, found-new}
 use Rattle.macs_headline.proofs.Identities.{identity-found, identity-of-life}
+use Rattle.macs_headline.proofs.Ledger.{none_some}
 use Rattle.macs_headline.proofs.Lists.{contains-cases, contains-none}
 
 -- lives, and then more
@@ -38,9 +38,6 @@ made_on sectors identity a b c (Refuses edition image fault ∷ before) more one
 made_on sectors identity a b c (Serves edition image exchanges cut ∷ before) more
     (stands, kept, are_kept, mid, made, rest) two =
     (stands, kept, are_kept, mid, made, made_on sectors identity mid b c before more rest two)
-
-none_some : (c : Command) → ◌≡◌ {A = Option Command} None (Some c) → ⊥
-none_some c is = cc
 
 -- a disk that was formatted just now has the first configuration
 formatted_config : (edition : Edition) (identity : Identity) (found : Standing) (logs : Logs)

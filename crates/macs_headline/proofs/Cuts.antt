@@ -23,11 +23,10 @@ use Rattle.macs_endpoint.specs.Value.{EndpointValue, IsAtRest, IsBacked, IsKeepi
 use Rattle.macs_endpoint.specs.Value.{disk_in, state_of}
 use Rattle.macs_headline.proofs.Changes.{Begins, BeginsAndStops, Breaks, Change, Completes, Delivers, Drops, HoldsBack}
 use Rattle.macs_headline.proofs.Changes.{Obeys, Queues, Sends, Stays, Stops, change-of}
+use Rattle.macs_headline.proofs.Ledger.{none_some}
+use Rattle.macs_headline.proofs.LifeEnds.{by-end}
 
 -- ---- what is under way
-
-pub none_under_way : (c : Command) → ◌≡◌ {A = Option Command} None (Some c) → ⊥
-none_under_way c is = cc
 
 -- while the endpoint runs, a command is under way only where it is the first that waits
 pub record IsSettled (s : State) : Type 0 where
@@ -41,11 +40,11 @@ module _ {D : Type 0} (e : EndpointValue D) (logs : Logs) where
   by_work : IsAtRest e ⊎ (IsReserving e ⊎ IsKeeping e) → IsSettled (state_of e logs)
   by_work (inl at) = record {
     alone = λ running none. at.under_way running;
-    first = λ running c hand. absurd (none_under_way c (sym (at.under_way running) ∙ hand));
+    first = λ running c hand. absurd (none_some c (sym (at.under_way running) ∙ hand));
   }
   by_work (inr (inl at)) = record {
     alone = λ running none. at.under_way;
-    first = λ running c hand. absurd (none_under_way c (sym at.under_way ∙ hand));
+    first = λ running c hand. absurd (none_some c (sym at.under_way ∙ hand));
   }
   by_work (inr (inr at)) = record {
     alone = λ running none. absurd (none_waits at.first at.rest (sym at.waiting ∙ none));
@@ -120,15 +119,9 @@ module _ (edition : Edition) (sectors : ℕ) (image : Image) where
     restart = elim fits.restart [
       | inl up ↦ inl (resumes_alike s (state_with_under_way s command) (opened_state fits.found s.logs)
           (all_alike s s.stopped (Some command) s.waiting) up)
-      | inr made ↦ absurd (none_under_way made.0 (sym idle ∙ made.2))
+      | inr made ↦ absurd (none_some made.0 (sym idle ∙ made.2))
     ];
   }
-
-  held_or_not : (P : State → Type 0) (stopped accepts : Bool) (x y : State) → (stopped ≡ false → P x) → P y
-      → P (cond (not stopped && accepts) x y)
-  held_or_not P true accepts x y this other = other
-  held_or_not P false true x y this other = this refl
-  held_or_not P false false x y this other = other
 
   held_surely : (P : State → Type 0) (stopped accepts : Bool) (x y : State) → stopped ≡ false → accepts ≡ true → P x
       → P (cond (not stopped && accepts) x y)
@@ -146,32 +139,11 @@ module _ (edition : Edition) (sectors : ℕ) (image : Image) where
       accepted fits
 
   -- before the call
-  fits_taking : (s : State) (c : Command) → (s.stopped ≡ false → s.under_way ≡ None) → FitsHere s
-      → FitsHere (state_taking s c)
-  fits_taking s c idle fits =
-      held_or_not FitsHere s.stopped (is_ok (apply s.edition s.identity s.config c)) (state_with_under_way s c) s
-      (λ running. fits_holding s c (idle running) fits) fits
-
-  fits_alone : (s : State) (c : Command) (waiting : List Waiting)
-      → (s.stopped ≡ false → waiting ≡ [] → s.under_way ≡ None) → FitsHere s
-      → FitsHere (state_taking_alone s c waiting)
-  fits_alone s c [] idle fits = fits_taking s c (λ running. idle running refl) fits
-  fits_alone s c (first ∷ rest) idle fits = fits
-
-  fits_first : (s : State) (under_way : Option Command) (waiting : List Waiting) → s.under_way ≡ under_way → FitsHere s
-      → FitsHere (state_taking_first s under_way waiting)
-  fits_first s None [] is fits = fits
-  fits_first s None (first ∷ rest) is fits = fits_taking s first.command (λ running. is) fits
-  fits_first s (Some c) waiting is fits = fits
-
   fits_during : (s : State) (call : Call) → IsSettled s → FitsHere s → FitsHere (state_during s call)
-  fits_during s (Commands c) settled fits = fits_alone s c s.waiting settled.alone fits
-  fits_during s Refills settled fits = fits
-  fits_during s Rests settled fits = fits
-  fits_during s (Submits c) settled fits = fits
-  fits_during s Advances settled fits = fits_first s s.under_way s.waiting refl fits
-  fits_during s (Protects plain) settled fits = fits
-  fits_during s (Receives frame) settled fits = fits
+  fits_during s call settled fits = by-end FitsHere s fits (Some call) (λ c taken. fits_holding s c (elim taken.how [
+    | inl own ↦ settled.alone taken.running own.1
+    | inr queued ↦ queued.1
+  ]) fits)
 
   -- while none waits
   during_alone : (s : State) (c : Command) → NoneWait s → FitsHere (state_taking s c)
@@ -233,7 +205,7 @@ module _ (edition : Edition) (sectors : ℕ) (image : Image) where
             (config, ok, refl),
             resumes_alike later mid (opened_state fits.found s.logs) (all_alike later s.stopped None s.waiting) up,
           )
-          | inr made ↦ absurd (none_under_way made.0 made.2)
+          | inr made ↦ absurd (none_some made.0 made.2)
         ];
       }
 
@@ -247,7 +219,7 @@ module _ (edition : Edition) (sectors : ℕ) (image : Image) where
         restart = elim fits.restart [
           | inl up ↦ inl (resumes_alike later s (opened_state fits.found s.logs)
               (all_alike later s.stopped s.under_way s.waiting) up)
-          | inr made ↦ absurd (none_under_way made.0 made.2)
+          | inr made ↦ absurd (none_some made.0 made.2)
         ];
       }
 

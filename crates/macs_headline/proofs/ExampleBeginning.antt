@@ -19,8 +19,8 @@ use Rattle.macs_headline.specs.ExampleCuts.{state_after_writes, compaction_write
 use Rattle.macs_headline.specs.ExampleMigration.{beginning_disk, beginning_under_way, migrated_content, used_content}
 use Rattle.macs_headline.specs.ExampleMigration.{used_image, used_records}
 use Rattle.macs_headline.specs.Images.{image_with_area}
-use Rattle.macs_headline.proofs.Built.{area-body, area-head}
-use Rattle.macs_headline.proofs.ExampleCuts.{bodies_seen, each_at, first_apart, some_of, writes_apart, writes_durable}
+use Rattle.macs_headline.proofs.Built.{area-body, area-head, each_get}
+use Rattle.macs_headline.proofs.ExampleCuts.{bodies_seen, first_apart, some_of, writes_apart, writes_durable}
 use Rattle.macs_headline.proofs.ExampleMigration.{closed_used, next_range, used_found, used_ranges}
 
 abbrev head : Head
@@ -122,7 +122,7 @@ first_two (suc (suc n)) lt = absurd (omega (arith, lt))
 
 body_is : (slot : ℕ) → slot < 2 → IsBodyOf used_records slot ((moment 261).seen (slot_body 1 slot))
 body_is slot lt r is = record {
-  range = each_at used_records slot r used_ranges is;
+  range = each_get used_records slot r used_ranges is;
   octets = sym (ap (λ (seen : Image). seen (slot_body 1 slot)) seen_is
       ∙ area-body used_image 1 head (take 2 used_records) slot r (first_two slot lt ∙ is));
 }

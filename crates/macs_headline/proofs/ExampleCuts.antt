@@ -1,7 +1,7 @@
 -- The disks of the example hold the work in which its lives are cut short, and what a power loss leaves of it.
 use Rattle.std.proofs.Common.{◌≡◌, ◌≢◌, ◌<◌, ◌≤◌, ◌+◌, ◌-◌, ◌==◌, ◌^◌, ◌&&◌, inl, inr, ℕ, zero, suc, Bool, true, false}
-use Rattle.std.proofs.Common.{cond, List, [], ◌∷◌, ◌++◌, length, take, replicate, get_or, Some, refl, sym, ◌∙◌, ap}
-use Rattle.std.proofs.Common.{subst, arith}
+use Rattle.std.proofs.Common.{cond, List, [], ◌∷◌, ◌++◌, length, take, replicate, get_or, refl, sym, ◌∙◌, ap, subst}
+use Rattle.std.proofs.Common.{arith}
 use Rattle.std.specs.Prelude.{All, nat_lt, slice_get}
 use Rattle.std.specs.List.{AllByRecursion}
 use Rattle.std.specs.Int.{to_be_bytes, w32, w64}
@@ -39,7 +39,7 @@ use Rattle.macs_headline.specs.ExampleDisk.{narrow_image, full_content, full_ima
 use Rattle.macs_headline.specs.ExampleDisk.{last_image, served_content, served_image, widened}
 use Rattle.macs_headline.specs.ExampleStanding.{served_config}
 use Rattle.macs_headline.specs.Images.{image_with_area, image_with_bodies, image_with_next_body, image_with_record}
-use Rattle.macs_headline.proofs.Built.{area-body, area-head, closed-gate}
+use Rattle.macs_headline.proofs.Built.{area-body, area-head, closed-gate, each_get}
 use Rattle.macs_headline.proofs.ExampleImages.{far-full, narrow-found, full-found, last-found, last-size, snapshot-size}
 use Rattle.macs_headline.proofs.ExampleRecords.{IsOctet, head-range, six_records, snapshot-is, snapshot-ranges}
 use Rattle.macs_headline.proofs.ExampleRecords.{widened-range, word-range}
@@ -326,12 +326,6 @@ first_two zero lt = subst (λ (rs : List Record). slice_get (take 2 rs) 0 ≡ sl
 first_two (suc zero) lt = subst (λ (rs : List Record). slice_get (take 2 rs) 1 ≡ slice_get rs 1) (sym snapshot-is) refl
 first_two (suc (suc n)) lt = absurd (omega (arith, lt))
 
-pub each_at : (rs : List Record) (j : ℕ) (r : Record) → AllByRecursion IsRecord rs → slice_get rs j ≡ Some r
-    → IsRecord r
-each_at [] j r are is = absurd (cc)
-each_at (x ∷ rs) zero r are is = let same : x ≡ r = cc in subst IsRecord same are.0
-each_at (x ∷ rs) (suc j) r are is = each_at rs j r are.1 is
-
 next_range : IsHead head
 next_range = record {
   generation = omega arith;
@@ -345,7 +339,7 @@ next_range = record {
 
 body_is : (slot : ℕ) → slot < 2 → IsBodyOf full_snapshot slot ((moment 261).seen (slot_body 1 slot))
 body_is slot lt r is = record {
-  range = each_at full_snapshot slot r (subst (AllByRecursion IsRecord) (sym snapshot-is) snapshot-ranges) is;
+  range = each_get full_snapshot slot r (subst (AllByRecursion IsRecord) (sym snapshot-is) snapshot-ranges) is;
   octets = sym (ap (λ (seen : Image). seen (slot_body 1 slot)) seen_is
       ∙ area-body full_image 1 head (take 2 full_snapshot) slot r (first_two slot lt ∙ is));
 }

@@ -78,7 +78,7 @@ fits-served = record {
 
 -- ---- after the second life
 
-tx_second : (own : Bool)
+pub tx_second : (own : Bool)
     → TxRises 4 (cond own (Some 10) (cond own (Some 9) (cond own (Some 5) None))) (cond own (Some 13) None)
 tx_second true = (13, refl, omega arith, omega arith, omega arith)
 tx_second false = refl

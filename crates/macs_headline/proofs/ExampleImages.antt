@@ -230,7 +230,7 @@ default_config = record {
 }
 
 -- a command of the first life, which is accepted
-next_config : (old new : Config) (command : Command) → apply this_edition example_identity old command ≡ Ok new
+pub next_config : (old new : Config) (command : Command) → apply this_edition example_identity old command ≡ Ok new
     → IsConfig this_edition example_identity old
     → IsConfig this_edition example_identity new
 next_config old new command done is = apply-keeps this_edition example_identity old new command is done

@@ -1,7 +1,7 @@
 -- A disk that the first edition of the program formatted, and what an opening makes of it.
 use Rattle.std.proofs.Common.{◌≡◌, ◌≢◌, ◌≤◌, ◌<◌, ◌^◌, ◌+◌, ◌-◌, ◌==◌, ◌++◌, ◌∙◌, inl, inr, ℕ, Bool, true, false, cond}
-use Rattle.std.proofs.Common.{List, replicate, [], ◌∷◌, length, take, bytes_eq, Some, None, Ok, Err, refl, sym}
-use Rattle.std.proofs.Common.{ap, subst, arith}
+use Rattle.std.proofs.Common.{List, replicate, [], ◌∷◌, length, take, bytes_eq, Some, None, Ok, Err, refl, sym, ap}
+use Rattle.std.proofs.Common.{subst, arith}
 use Rattle.std.specs.Prelude.{All}
 use Rattle.std.specs.List.{AllByRecursion}
 use Rattle.std.specs.Option.{option_map}
@@ -10,14 +10,12 @@ use Rattle.std.proofs.lemmas.List.{length-replicate}
 use Rattle.std.proofs.lemmas.List.Elements.{All-from_recursion, All-replicate}
 use Rattle.macs_fields.specs.Fields.{IsOctets}
 use Rattle.macs_config.specs.Apply.{Named, apply, config_after}
-use Rattle.macs_config.specs.Config.{Config, Edition, IsConfig, IsUpTo, default, first_edition, is_spent}
-use Rattle.macs_config.specs.Config.{rx_fingerprint, this_edition, tx_fingerprint}
+use Rattle.macs_config.specs.Config.{Edition, IsConfig, IsUpTo, default, first_edition, is_spent, rx_fingerprint}
+use Rattle.macs_config.specs.Config.{this_edition, tx_fingerprint}
 use Rattle.macs_config.specs.Tables.{put}
-use Rattle.macs_config.specs.declared.command.Command.{Command}
 use Rattle.macs_config.specs.declared.command.Role.TheVariants.{Receive, Transmit}
 use Rattle.macs_config.specs.declared.command.Validate.TheVariants.{Strict}
 use Rattle.macs_config.specs.declared.refusal.Refusal.TheVariants.{KeySpent}
-use Rattle.macs_config.proofs.Kept.{apply-keeps}
 use Rattle.macs_disk.specs.Disk.{Disk, MayLeave}
 use Rattle.macs_disk.specs.States.{Image, put_sector, zero_sector}
 use Rattle.macs_disk.proofs.Images.{put-other, put-same}
@@ -69,10 +67,10 @@ use Rattle.macs_headline.proofs.Formats.{resumed, up-to-itself}
 use Rattle.macs_headline.proofs.Later.{later-found, meaning-later, meaning-more, written-found}
 use Rattle.macs_headline.proofs.Chains.{settled-disks}
 use Rattle.macs_headline.proofs.ExampleCuts.{head-sector, record_sector, torn_kept, torn_whole}
-use Rattle.macs_headline.proofs.ExampleFits.{away, rx_all}
+use Rattle.macs_headline.proofs.ExampleFits.{away, rx_all, tx_second}
 use Rattle.macs_headline.proofs.ExampleFrames.{arrival, peer-arrives}
 use Rattle.macs_headline.proofs.ExampleHistory.{range_on, refused_by, same_steps, steps_on}
-use Rattle.macs_headline.proofs.ExampleImages.{both_at, both_some, default_config}
+use Rattle.macs_headline.proofs.ExampleImages.{both_at, both_some, default_config, next_config}
 use Rattle.macs_headline.proofs.ExampleRecords.{head-range, key-range, long-key-range, peer-range, print_range}
 use Rattle.macs_headline.proofs.ExampleRecords.{snapshot-ranges}
 use Rattle.macs_headline.proofs.ExampleStates.{outgoing}
@@ -348,12 +346,6 @@ used_first = refl
 
 used_this : meaning_of this_edition used_content ≡ Some (used_standing this_edition)
 used_this = refl
-
--- a command that is accepted
-next_config : (old new : Config) (command : Command) → apply this_edition example_identity old command ≡ Ok new
-    → IsConfig this_edition example_identity old
-    → IsConfig this_edition example_identity new
-next_config old new command done is = apply-keeps this_edition example_identity old new command is done
 
 used_is_config : IsConfig this_edition example_identity used_config
 used_is_config =
@@ -720,11 +712,6 @@ fits_long = record {
       ))));
 }
 
-tx_filled : (own : Bool)
-    → TxRises 4 (cond own (Some 10) (cond own (Some 9) (cond own (Some 5) None))) (cond own (Some 13) None)
-tx_filled true = (13, refl, omega arith, omega arith, omega arith)
-tx_filled false = refl
-
 again_is : StandingIs this_edition example_sectors again_image (Ok filled_standing)
 again_is = (omega arith, record { content = again_content; found = again_found; stands = again_meaning })
 
@@ -733,7 +720,7 @@ fits_again : Fits this_edition example_sectors again_image filled_end
 fits_again = record {
   found = filled_standing;
   is_found = again_is;
-  restart = inl (resumed filled_end filled_standing (up-to-itself this_edition) refl refl (λ an. tx_filled (an == 0))
+  restart = inl (resumed filled_end filled_standing (up-to-itself this_edition) refl refl (λ an. tx_second (an == 0))
       (rx_all filled_end.numbers c0.numbers (9, refl, omega arith, omega arith) (λ sci an apart. (
         ap (option_map first_numbers) (away (put_rx no_ceilings.rx peer_sci 0 (Some 1)) (Some 9) sci an apart
             ∙ away no_ceilings.rx (Some 1) sci an apart),

@@ -1,6 +1,7 @@
 -- One configuration is found after a life at whose end nothing is under way, and one of two where a command is.
 use Rattle.std.proofs.Common.{◌≡◌, ◌⊎◌, inl, inr, List, [], ◌∷◌, ◌++◌, Some, None, Ok, refl, sym, ◌∙◌, ap, subst}
 use Rattle.std.proofs.Common.{append-nil, append_assoc}
+use Rattle.std.proofs.lemmas.List.{append_cancel_left}
 use Rattle.macs_config.specs.Apply.{apply}
 use Rattle.macs_config.specs.Config.{Config, Edition}
 use Rattle.macs_config.specs.Identity.{Identity}
@@ -27,10 +28,6 @@ prefix_of_itself all kept (rest, holds) (more, within) =
     let none : rest ≡ [] = nothing_in_front rest more (nothing_behind all (rest ++ more) whole) in
     sym holds ∙ ap (λ k. all ++ k) none ∙ append-nil all
 
-nothing_else : {X : Type 0} (xs ys zs : List X) → xs ++ ys ≡ xs ++ zs → ys ≡ zs
-nothing_else [] ys zs is = is
-nothing_else (x ∷ xs) ys zs is = let later : xs ++ ys ≡ xs ++ zs = cc in nothing_else xs ys zs later
-
 none_or_one : {X : Type 0} (xs ys : List X) (x : X) → xs ++ ys ≡ x ∷ [] → (xs ≡ []) ⊎ (xs ≡ x ∷ [])
 none_or_one [] ys x is = inl refl
 none_or_one (y ∷ xs) ys x is =
@@ -44,7 +41,7 @@ all_or_one_more : {X : Type 0} (all kept : List X) (x : X) → IsPrefix all kept
 all_or_one_more all kept x (rest, holds) (more, within) =
     let whole : all ++ (rest ++ more) ≡ all ++ x ∷ [] = sym (append_assoc all rest more)
     ∙ ap (λ k. k ++ more) holds ∙ within in
-    elim (none_or_one rest more x (nothing_else all (rest ++ more) (x ∷ []) whole)) [
+    elim (none_or_one rest more x (append_cancel_left all (rest ++ more) (x ∷ []) whole)) [
       | inl none ↦ inl (sym holds ∙ ap (λ k. all ++ k) none ∙ append-nil all)
       | inr one ↦ inr (sym holds ∙ ap (λ k. all ++ k) one)
     ]

@@ -1,28 +1,23 @@
 -- What is under way at the end of a life was given to a call of it.
-use Rattle.std.proofs.Common.{◌≡◌, ◌⊎◌, ◌+◌, ◌&&◌, inl, inr, ℕ, Bool, true, false, cond, not, is_ok, List, [], ◌∷◌}
-use Rattle.std.proofs.Common.{Option, Some, None, Err, refl, sym, ◌∙◌, ap, subst}
+use Rattle.std.proofs.Common.{◌≡◌, ◌⊎◌, ◌+◌, inl, inr, ℕ, true, false, List, [], ◌∷◌, Option, Some, None, Err, refl}
+use Rattle.std.proofs.Common.{sym, ◌∙◌, ap, subst}
 use Rattle.std.specs.Prelude.{Contains}
 use Rattle.std.proofs.lemmas.Bool.{false≢true}
-use Rattle.macs_config.specs.Apply.{apply}
 use Rattle.macs_config.specs.declared.command.Command.{Command}
 use Rattle.macs_endpoint.specs.Queue.{first_command, with_waiting}
 use Rattle.macs_endpoint.specs.declared.fault.CommandFault.TheVariants as ran
 use Rattle.macs_endpoint.specs.declared.queue.Waiting.{Waiting}
-use Rattle.macs_endpoint.specs.Restart.{opened_state, state_taking_alone, state_taking_first}
-use Rattle.macs_endpoint.specs.State.{Advances, Call, Commands, Protects, Ran, Receives, Refills, Reply, State, Submits}
-use Rattle.macs_endpoint.specs.State.{state_with_under_way}
-use Rattle.macs_endpoint.specs.State.{Rests}
+use Rattle.macs_endpoint.specs.Restart.{opened_state}
+use Rattle.macs_endpoint.specs.State.{Call, Commands, Ran, Reply, State}
 use Rattle.macs_endpoint.specs.Step.{Exchange, Step, Steps, TakesUp}
 use Rattle.macs_headline.specs.Commands.{UnderWayWasGiven, WasHandedIn, failing, waiting_at_end}
 use Rattle.macs_headline.specs.History.{logs_of, state_at_end}
 use Rattle.macs_headline.proofs.Changes.{Begins, BeginsAndStops, Breaks, Change, Completes, Delivers, Drops, HoldsBack}
 use Rattle.macs_headline.proofs.Changes.{Obeys, Queues, Sends, Stays, Stops, change-of}
 use Rattle.macs_headline.proofs.Commands.{waits-from}
-use Rattle.macs_headline.proofs.Ledger.{some_one}
+use Rattle.macs_headline.proofs.Ledger.{none_some, some_one}
+use Rattle.macs_headline.proofs.LifeEnds.{IsTaken, by-end}
 use Rattle.macs_headline.proofs.Lists.{contains-first, contains-later}
-
-pub none_some : (c : Command) → ◌≡◌ {A = Option Command} None (Some c) → ⊥
-none_some c is = cc
 
 -- one more that waits leaves the first one
 pub first_on : (waiting : List Waiting) (ticket : ℕ) (c d : Command) → first_command waiting ≡ Some d
@@ -139,43 +134,18 @@ module _ (exchanges : List Exchange) (s : State) (waits : s.waiting ≡ waiting_
     | inr failed ↦ inr (sym waits ∙ failed.1, inl failed.2)
   ]
 
-  either_hand : (b : Bool) (d c : Command) → (cond b (state_with_under_way s d) s).under_way ≡ Some c
-      → (s.under_way ≡ Some c) ⊎ (d ≡ c)
-  either_hand true d c is = inr (some_one (Some d) d c refl is)
-  either_hand false d c is = inl is
-
   -- or taken in the call that is cut short
-  alone_hand : (d : Command) (waiting : List Waiting) (c : Command) → s.waiting ≡ waiting
-      → (state_taking_alone s d waiting).under_way ≡ Some c
-      → WasHandedIn exchanges (Some (Commands d)) c
-  alone_hand d [] c none is =
-      elim (either_hand (not s.stopped && is_ok (apply s.edition s.identity s.config d)) d c is) [
-        | inl hand ↦ by_answers (Some (Commands d)) c hand
-        | inr one ↦ inr (sym waits ∙ none, inr (ap (λ (c : Command). Some (Commands c)) one))
-      ]
-  alone_hand d (first ∷ rest) c some is = by_answers (Some (Commands d)) c is
-
-  first_hand : (under_way : Option Command) (waiting : List Waiting) (c : Command) → s.waiting ≡ waiting
-      → (state_taking_first s under_way waiting).under_way ≡ Some c
-      → WasHandedIn exchanges (Some Advances) c
-  first_hand None [] c none is = by_answers (Some Advances) c is
-  first_hand None (first ∷ rest) c waiting is =
-      elim (either_hand (not s.stopped && is_ok (apply s.edition s.identity s.config first.command))
-      first.command c is) [
-        | inl hand ↦ by_answers (Some Advances) c hand
-        | inr one ↦ inl (sym (ap first_command waits) ∙ ap first_command waiting ∙ ap (λ (c : Command). Some c) one)
-      ]
-  first_hand (Some d) waiting c some is = by_answers (Some Advances) c is
+  by_taking : (cut : Option Call) (c : Command) → IsTaken s cut c → WasHandedIn exchanges cut c
+  by_taking cut c taken = elim taken.how [
+    | inl own ↦ inr (sym waits ∙ own.1, inr own.0)
+    | inr queued ↦
+        let there = queued.2 in
+        inl (sym (ap first_command waits) ∙ ap first_command there.2 ∙ ap (λ (c : Command). Some c) there.3)
+  ]
 
   at_end : (cut : Option Call) (c : Command) → (state_at_end s cut).under_way ≡ Some c → WasHandedIn exchanges cut c
-  at_end None c is = by_answers None c is
-  at_end (Some (Commands d)) c is = alone_hand d s.waiting c refl is
-  at_end (Some Refills) c is = by_answers (Some Refills) c is
-  at_end (Some Rests) c is = by_answers (Some Rests) c is
-  at_end (Some (Submits d)) c is = by_answers (Some (Submits d)) c is
-  at_end (Some Advances) c is = first_hand s.under_way s.waiting c refl is
-  at_end (Some (Protects plain)) c is = by_answers (Some (Protects plain)) c is
-  at_end (Some (Receives frame)) c is = by_answers (Some (Receives frame)) c is
+  at_end cut c = by-end (λ t. t.under_way ≡ Some c → WasHandedIn exchanges cut c) s (by_answers cut c) cut
+      (λ d taken is. by_taking cut c (subst (IsTaken s cut) (some_one (Some d) d c refl is) taken))
 
 pub under-way-was-given : (sectors : ℕ) → UnderWayWasGiven sectors
 under-way-was-given sectors last m cut command is =

@@ -1,7 +1,7 @@
 -- Places have keys, and bounds on numbers; a log has keys with numbers. Each key is at one place, each number of the
 -- log is below the bound of its key's place, and each key of a place or of the log is spent.
 use Rattle.std.proofs.Common.{◌≡◌, ◌<◌, ◌≤◌, ◌⊎◌, inl, inr, ℕ, true, sym, ◌∙◌, subst, arith, List}
-use Rattle.std.specs.Prelude.{Option, Some}
+use Rattle.std.specs.Prelude.{Option, Some, None}
 use Rattle.macs_config.specs.Config.{is_spent}
 
 pub record IsLedger {P K : Type 0} (print : K → List ℕ) (key_at : P → Option K) (spent : List (List ℕ)) (bound : P
@@ -10,6 +10,9 @@ pub record IsLedger {P K : Type 0} (print : K → List ℕ) (key_at : P → Opti
   pub logged : (k : K) (n : ℕ) → log k n → is_spent spent (print k) ≡ true
   pub placed : (p : P) (k : K) → key_at p ≡ Some k → is_spent spent (print k) ≡ true
   pub once : (p q : P) (k : K) → key_at p ≡ Some k → key_at q ≡ Some k → p ≡ q
+
+pub none_some : {X : Type 0} (x : X) → ◌≡◌ {A = Option X} None (Some x) → ⊥
+none_some x is = cc
 
 pub some_one : {X : Type 0} (o : Option X) (x y : X) → o ≡ Some x → o ≡ Some y → x ≡ y
 some_one o x y is js = cc

@@ -4,6 +4,7 @@ pub mod Places
 pub mod Accepted
 pub mod Changing
 pub mod Changes
+pub mod LifeEnds
 pub mod Effects
 pub mod Sent
 pub mod Given

@@ -21,35 +21,12 @@ contains-cases x xs y (suc k, within, is) = inr (k, omega (arith, within), is)
 pub contains-none : {X : Type 0} (y : X) → ¬ Contains [] y
 contains-none y (k, within, is) = omega (arith, within)
 
--- ---- two lists
-
-pub contains-either : {X : Type 0} (xs ys : List X) (y : X) → Contains (xs ++ ys) y → Contains xs y ⊎ Contains ys y
-contains-either [] ys y h = inr h
-contains-either (x ∷ xs) ys y h = elim (contains-cases x (xs ++ ys) y h) [
-  | inl same ↦ inl (subst (Contains (x ∷ xs)) (sym same) (contains-first x xs))
-  | inr later ↦ elim (contains-either xs ys y later) [
-    | inl front ↦ inl (contains-later x xs y front)
-    | inr rear ↦ inr rear
-  ]
-]
-
-pub contains-front : {X : Type 0} (xs ys : List X) (y : X) → Contains xs y → Contains (xs ++ ys) y
-contains-front [] ys y h = absurd (contains-none y h)
-contains-front (x ∷ xs) ys y h = elim (contains-cases x xs y h) [
-  | inl same ↦ subst (Contains (x ∷ xs ++ ys)) (sym same) (contains-first x (xs ++ ys))
-  | inr later ↦ contains-later x (xs ++ ys) y (contains-front xs ys y later)
-]
-
 pub contains-map : {X Y : Type 0} (f : X → Y) (xs : List X) (x : X) → Contains xs x → Contains (map f xs) (f x)
 contains-map f [] x h = absurd (contains-none x h)
 contains-map f (first ∷ xs) x h = elim (contains-cases first xs x h) [
   | inl same ↦ subst (λ y. Contains (map f (first ∷ xs)) y) (ap f (sym same)) (contains-first (f first) (map f xs))
   | inr later ↦ contains-later (f first) (map f xs) (f x) (contains-map f xs x later)
 ]
-
-pub contains-rear : {X : Type 0} (xs ys : List X) (y : X) → Contains ys y → Contains (xs ++ ys) y
-contains-rear [] ys y h = h
-contains-rear (x ∷ xs) ys y h = contains-later x (xs ++ ys) y (contains-rear xs ys y h)
 
 -- ---- pairs
 

@@ -26,7 +26,7 @@ use Rattle.macs_headline.specs.Numbers.{BeginAsAsked, GivenApart, GivenBelow, Ha
 use Rattle.macs_headline.specs.Numbers.{IsMoved, IsSkipped, OkApart, SkipsFew, SkipsFewReceived, UsedBelow, UsedOnce}
 use Rattle.macs_headline.specs.Numbers.{UsedOnceAtEnd}
 use Rattle.macs_headline.proofs.Lists.{pairs-none}
-use Rattle.macs_headline.proofs.Ledger.{ledger-kept, some_one}
+use Rattle.macs_headline.proofs.Ledger.{ledger-kept, none_some, some_one}
 use Rattle.macs_headline.proofs.Places.{cases_place, cases_sci, put-that, put-this, put_at-that, put_at-this}
 use Rattle.macs_headline.proofs.Places.{put_rx-that, put_rx-this}
 use Rattle.macs_headline.proofs.Accepted.{accepted, free-slot}
@@ -203,9 +203,6 @@ skips s new an before after next (inr (c, mid, hand, makes, up)) is js is_next =
     (subst (λ (o : Option ℕ). TxRises mid.identity.tx_block o (new.next an)) mid_next (up.next an)) in
     skipped s.identity.tx_block next (new.next an) rises
 
-gone_or : {X : Type 0} {x : X} → ◌≡◌ {A = Option X} None (Some x) → ⊥
-gone_or is = cc
-
 -- the numbers of a receive association that stays, over the command under way: a new window moves the lowest alone
 numbers_stay : (edition : Edition) (identity : Identity) (old : Config) (c : Command) (numbers : List ℕ → ℕ
     → Option Numbers) (sci : List ℕ) (an : ℕ)
@@ -219,7 +216,7 @@ numbers_stay edition identity old (RxDrop at) numbers sci an before after n ok i
   | inl same ↦
       let gone : (config_after old (RxDrop at)).rx sci an ≡ None =
       ap (λ (f : ℕ → Option RxSa). f an) (put_at-this old.rx at sci (λ an. None) same) in
-      absurd (gone_or (sym gone ∙ js))
+      absurd (none_some _ (sym gone ∙ js))
   | inr apart ↦ (n, ap (λ (f : ℕ → Option Numbers). f an) (put_at-that numbers at sci _ apart) ∙ here, refl, refl)
 ]
 numbers_stay edition identity old (RxInstall at number key start offset) numbers sci an before after n ok is js here =
@@ -237,7 +234,7 @@ numbers_stay edition identity old (RxRemove at number) numbers sci an before aft
       | inl same ↦
           let gone : (config_after old (RxRemove at number)).rx sci an ≡ None =
           put_rx-this old.rx at number sci an None same.0 same.1 in
-          absurd (gone_or (sym gone ∙ js))
+          absurd (none_some _ (sym gone ∙ js))
       | inr apart ↦ (n, put_rx-that numbers at number sci an None apart ∙ here, refl, refl)
     ]
 numbers_stay edition identity old c numbers sci an before after n ok is js here = (n, here, refl, refl)

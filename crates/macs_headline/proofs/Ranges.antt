@@ -1,14 +1,14 @@
 -- Next packet numbers stay within 1 and 2^32, and commands under way and those that wait in their ranges.
 use Rattle.std.proofs.Common.{◌≡◌, ◌<◌, ◌≤◌, ◌+◌, ◌%◌, ◌^◌, ◌==◌, inl, inr, ℕ, refl, sym, ◌∙◌, ap, subst, arith, List}
-use Rattle.std.proofs.Common.{[], ◌∷◌, length, Bool, true, false, cond, Ok}
-use Rattle.std.specs.Prelude.{Option, Some, None, IfSome, not, ◌&&◌, is_ok, slice_index}
+use Rattle.std.proofs.Common.{[], ◌∷◌, length, true, false, Ok}
+use Rattle.std.specs.Prelude.{Option, Some, None, IfSome, not, ◌&&◌, slice_index}
 use Rattle.std.specs.List.{AllByRecursion}
 use Rattle.std.proofs.lemmas.Bool.{cases_eq, eq-eqb, ltb-false, not-false}
 use Rattle.macs_fields.specs.Fields.{octets_of}
 use Rattle.macs_frame.specs.Opening.{Verified}
 use Rattle.macs_frame.specs.Protection.{overhead}
 use Rattle.macs_frame.specs.Tag.{has_bit, name_of}
-use Rattle.macs_config.specs.Apply.{IsCommand, apply, config_after, refusal_of}
+use Rattle.macs_config.specs.Apply.{IsCommand, config_after, refusal_of}
 use Rattle.macs_config.specs.Association.{is_confidential, is_end_station, offset_of}
 use Rattle.macs_config.specs.Config.{Config, Edition}
 use Rattle.macs_config.specs.Identity.{Identity, is_port_one}
@@ -27,11 +27,9 @@ use Rattle.macs_store.proofs.LargerEditions.{of-edition}
 use Rattle.macs_endpoint.specs.Calls.{IsInRange}
 use Rattle.macs_endpoint.specs.Queue.{with_waiting}
 use Rattle.macs_endpoint.specs.declared.queue.Waiting.{Waiting}
-use Rattle.macs_endpoint.specs.Restart.{Restart, Resumes, TxRises, opened_state, state_taking, state_taking_alone}
-use Rattle.macs_endpoint.specs.Restart.{state_taking_first}
-use Rattle.macs_endpoint.specs.State.{Advances, Call, Commands, Protected, Protects, Receives, Refills, Reply, State}
-use Rattle.macs_endpoint.specs.State.{Submits, Logs, no_logs, state_with_under_way, tx_side}
-use Rattle.macs_endpoint.specs.State.{Rests}
+use Rattle.macs_endpoint.specs.Restart.{Restart, Resumes, TxRises, opened_state}
+use Rattle.macs_endpoint.specs.State.{Call, Protected, Protects, Reply, State, Logs, no_logs, state_with_under_way}
+use Rattle.macs_endpoint.specs.State.{tx_side}
 use Rattle.macs_endpoint.specs.Step.{Exchange, Makes, ProtectStep, Step, Steps, TakesUp, next_after}
 use Rattle.macs_endpoint.specs.Step.{state_after_delivery, state_after_hold, state_without_first}
 use Rattle.macs_headline.specs.Frames.{FramesAreStandard, IsNamedIn, IsStandardFrame}
@@ -43,6 +41,7 @@ use Rattle.macs_headline.proofs.Places.{put-that, put-this}
 use Rattle.macs_headline.proofs.Changes.{Begins, BeginsAndStops, Breaks, Change, Completes, Delivers, Drops, HoldsBack}
 use Rattle.macs_headline.proofs.Changes.{Obeys, Queues, Sends, Stays, Stops, change-of}
 use Rattle.macs_headline.proofs.Accepted.{NoTest, accepted, no-test, right-mode, right-start, tx_of}
+use Rattle.macs_headline.proofs.LifeEnds.{by-end}
 use Rattle.macs_headline.proofs.Effects.{outgoing_is}
 use Rattle.macs_headline.proofs.FramesRead.{frame-bits, frame-named, frame-read, own-source}
 use Rattle.macs_headline.proofs.Histories.{fits-restart, found-new}
@@ -310,37 +309,15 @@ module _ (edition : Edition) where
 
   -- ---- the end of a life
 
-  either_range : (b : Bool) (x y : State) → IsRanged edition x → IsRanged edition y → IsRanged edition (cond b x y)
-  either_range true x y is other = is
-  either_range false x y is other = other
-
-  taking_range : (s : State) (c : Command) → IsCommand c → IsRanged edition s → IsRanged edition (state_taking s c)
-  taking_range s c given ranged =
-      either_range (not s.stopped && is_ok (apply s.edition s.identity s.config c)) (state_with_under_way s c) s
-      (hand_range s c given ranged) ranged
-
-  alone_range : (s : State) (c : Command) (waiting : List Waiting) → IsCommand c → IsRanged edition s
-      → IsRanged edition (state_taking_alone s c waiting)
-  alone_range s c [] given ranged = taking_range s c given ranged
-  alone_range s c (first ∷ rest) given ranged = ranged
-
-  first_range : (s : State) (under_way : Option Command) (waiting : List Waiting) → AreCommands waiting
-      → IsRanged edition s
-      → IsRanged edition (state_taking_first s under_way waiting)
-  first_range s None [] are ranged = ranged
-  first_range s None (first ∷ rest) are ranged = taking_range s first.command are.0 ranged
-  first_range s (Some c) waiting are ranged = ranged
-
   end_range : (s : State) (cut : Option Call) → IfSome cut (λ call. IsInRange call) → IsRanged edition s
       → IsRanged edition (state_at_end s cut)
-  end_range s None given ranged = ranged
-  end_range s (Some (Commands c)) given ranged = alone_range s c s.waiting given ranged
-  end_range s (Some Refills) given ranged = ranged
-  end_range s (Some Rests) given ranged = ranged
-  end_range s (Some (Submits c)) given ranged = ranged
-  end_range s (Some Advances) given ranged = first_range s s.under_way s.waiting ranged.queue ranged
-  end_range s (Some (Protects plain)) given ranged = ranged
-  end_range s (Some (Receives frame)) given ranged = ranged
+  end_range s cut given ranged = by-end (IsRanged edition) s ranged cut
+      (λ c taken. hand_range s c (elim taken.how [
+        | inl own ↦ subst (λ (cut : Option Call). IfSome cut (λ call. IsInRange call)) own.0 given
+        | inr queued ↦
+            let there = queued.2 in
+            subst IsCommand there.3 (first_command s there.0 there.1 there.2 ranged).0
+      ]) ranged)
 
 -- ---- a restart
 

@@ -1,24 +1,18 @@
 -- What holds of every state of every life: through calls, and through restarts.
-use Rattle.std.proofs.Common.{◌≡◌, ◌≤◌, ◌+◌, ◌/◌, inl, inr, ℕ, refl, sym, ap, subst, arith, List, [], ◌∷◌, Bool, true}
-use Rattle.std.proofs.Common.{false, cond}
-use Rattle.std.specs.Prelude.{Option, Some, None, ◌&&◌, not, is_ok}
+use Rattle.std.proofs.Common.{◌≡◌, ◌≤◌, ◌+◌, ◌/◌, inl, inr, ℕ, refl, sym, ap, subst, arith, List, [], ◌∷◌}
+use Rattle.std.specs.Prelude.{Option, Some, None}
 use Rattle.std.specs.Option.{option_map}
-use Rattle.macs_config.specs.Apply.{apply}
 use Rattle.macs_config.specs.Config.{Edition, tx_fingerprint}
 use Rattle.macs_config.specs.Identity.{Identity}
-use Rattle.macs_config.specs.declared.command.Command.{Command}
 use Rattle.macs_rxsc.specs.Receive.{Numbers, first_numbers}
-use Rattle.macs_endpoint.specs.State.{Advances, Call, Commands, Protects, Receives, Refills, State, Submits}
-use Rattle.macs_endpoint.specs.State.{state_with_under_way}
-use Rattle.macs_endpoint.specs.State.{Rests}
+use Rattle.macs_endpoint.specs.State.{Call, State}
 use Rattle.macs_endpoint.specs.Step.{Exchange, Steps}
-use Rattle.macs_endpoint.specs.Restart.{Restart, Resumes, RxRises, TxRises, state_during, state_taking}
-use Rattle.macs_endpoint.specs.Restart.{state_taking_alone, state_taking_first}
-use Rattle.macs_endpoint.specs.declared.queue.Waiting.{Waiting}
+use Rattle.macs_endpoint.specs.Restart.{Restart, Resumes, RxRises, TxRises}
 use Rattle.macs_headline.specs.History.{formatted_state, state_at_end}
 use Rattle.macs_headline.specs.Windows.{IsWithinWindow}
 use Rattle.macs_headline.proofs.Lists.{contains-none, pairs-none}
 use Rattle.macs_headline.proofs.Ledger.{ledger-kept, some_one}
+use Rattle.macs_headline.proofs.LifeEnds.{by-end}
 use Rattle.macs_headline.proofs.Effects.{Commanded, Core, Effect, core, effect-of}
 use Rattle.macs_headline.proofs.Sent.{IsSoundTx, IsUsed, tx-effect, tx_keys}
 use Rattle.macs_headline.proofs.Given.{IsGiven, IsSoundRx, given-effect, print_of, rx_bounds, rx_keys}
@@ -47,70 +41,11 @@ sound-steps old (e ∷ es) new steps is =
     (sound-effect old.edition (core old) (core mid) (effect-of old e.call e.reply mid steps.1) is)
 
 -- a command that is under way changes nothing else
-either_core : (b : Bool) (x y s : State) → core x ≡ core s → core y ≡ core s → core (cond b x y) ≡ core s
-either_core true x y s is other = is
-either_core false x y s is other = other
-
-taking_core : (s : State) (c : Command) → core (state_taking s c) ≡ core s
-taking_core s c =
-    either_core (not s.stopped && is_ok (apply s.edition s.identity s.config c)) (state_with_under_way s c)
-    s s refl refl
-
-alone_core : (s : State) (c : Command) (waiting : List Waiting) → core (state_taking_alone s c waiting) ≡ core s
-alone_core s c [] = taking_core s c
-alone_core s c (first ∷ rest) = refl
-
-first_core : (s : State) (under_way : Option Command) (waiting : List Waiting)
-    → core (state_taking_first s under_way waiting) ≡ core s
-first_core s None [] = refl
-first_core s None (first ∷ rest) = taking_core s first.command
-first_core s (Some c) waiting = refl
-
-during_core : (s : State) (call : Call) → core (state_during s call) ≡ core s
-during_core s (Commands c) = alone_core s c s.waiting
-during_core s Refills = refl
-during_core s Rests = refl
-during_core s (Submits c) = refl
-during_core s Advances = first_core s s.under_way s.waiting
-during_core s (Protects plain) = refl
-during_core s (Receives frame) = refl
-
 pub end-core : (s : State) (cut : Option Call) → core (state_at_end s cut) ≡ core s
-end-core s None = refl
-end-core s (Some call) = during_core s call
-
-either_edition : (b : Bool) (x y s : State) → x.edition ≡ s.edition → y.edition ≡ s.edition
-    → (cond b x y).edition ≡ s.edition
-either_edition true x y s is other = is
-either_edition false x y s is other = other
-
-taking_edition : (s : State) (c : Command) → (state_taking s c).edition ≡ s.edition
-taking_edition s c = either_edition (not s.stopped && is_ok (apply s.edition s.identity s.config c))
-    (state_with_under_way s c) s s refl refl
-
-alone_edition : (s : State) (c : Command) (waiting : List Waiting)
-    → (state_taking_alone s c waiting).edition ≡ s.edition
-alone_edition s c [] = taking_edition s c
-alone_edition s c (first ∷ rest) = refl
-
-first_edition : (s : State) (under_way : Option Command) (waiting : List Waiting)
-    → (state_taking_first s under_way waiting).edition ≡ s.edition
-first_edition s None [] = refl
-first_edition s None (first ∷ rest) = taking_edition s first.command
-first_edition s (Some c) waiting = refl
-
-during_edition : (s : State) (call : Call) → (state_during s call).edition ≡ s.edition
-during_edition s (Commands c) = alone_edition s c s.waiting
-during_edition s Refills = refl
-during_edition s Rests = refl
-during_edition s (Submits c) = refl
-during_edition s Advances = first_edition s s.under_way s.waiting
-during_edition s (Protects plain) = refl
-during_edition s (Receives frame) = refl
+end-core s cut = by-end (λ t. core t ≡ core s) s refl cut (λ c taken. refl)
 
 pub end-edition : (s : State) (cut : Option Call) → (state_at_end s cut).edition ≡ s.edition
-end-edition s None = refl
-end-edition s (Some call) = during_edition s call
+end-edition s cut = by-end (λ t. t.edition ≡ s.edition) s refl cut (λ c taken. refl)
 
 -- ---- numbers rise
 

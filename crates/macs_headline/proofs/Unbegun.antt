@@ -1,5 +1,5 @@
 -- A step in which no command begins: what a power loss inside it leaves fits the state before it.
-use Rattle.std.proofs.lemmas.Bool.{cases_lt}
+use Rattle.std.proofs.lemmas.Bool.{cases_Bool, cases_lt}
 use Rattle.std.proofs.Common.{◌≡◌, ◌≤◌, ◌+◌, le_refl, ◌⊎◌, ◌&&◌, inl, inr, ℕ, Bool, true, false, cond, not, List, []}
 use Rattle.std.proofs.Common.{◌∷◌, Option, Some, None, Result, Ok, Err, is_ok, refl, sym, ◌∙◌, ap, subst, arith}
 use Rattle.macs_config.specs.Apply.{apply}
@@ -26,12 +26,13 @@ use Rattle.macs_endpoint.specs.declared.progress.Step.TheVariants.{Done, Idle, R
 use Rattle.macs_endpoint.specs.declared.queue.Waiting.{Waiting}
 use Rattle.macs_endpoint.specs.declared.turn.Turn.{Turn}
 use Rattle.macs_endpoint.specs.declared.turn.Turn.TheVariants as turn
-use Rattle.macs_headline.proofs.Cuts.{cut-call, fits_running, none_under_way}
+use Rattle.macs_headline.proofs.Cuts.{cut-call, fits_running}
+use Rattle.macs_headline.proofs.Ledger.{none_some}
 
 -- a command that is taken up is under way
 takes_one : (s mid : State) → TakesUp s mid → mid.under_way ≡ None → ⊥
 takes_one s mid (first, rest, waiting, idle, accepts, is) none =
-    none_under_way first.command (sym none ∙ ap (λ (t : State). t.under_way) is)
+    none_some first.command (sym none ∙ ap (λ (t : State). t.under_way) is)
 
 -- the state is as before, or stopped
 abbrev Stays : State → State → Type 0
@@ -47,7 +48,7 @@ raised_state old new logs later (Ok Worked) at goes (inr takes) =
     absurd (takes_one (state_of old logs) (state_of new later) takes (goes.1 ∙ at.under_way))
 raised_state old new logs later (Ok Reserved) at goes step = inl step
 raised_state old new logs later (Ok (Done ticket (Ok done))) at goes step =
-    absurd (none_under_way goes.0.0 (sym at.under_way ∙ goes.0.1))
+    absurd (none_some goes.0.0 (sym at.under_way ∙ goes.0.1))
 raised_state old new logs later (Ok (Done ticket (Err fault))) at goes step = absurd goes
 raised_state old new logs later (Err advance.Disk) at goes (inl same) = inr same
 raised_state old new logs later (Err advance.Disk) at goes (inr (mid, takes, is)) =
@@ -138,7 +139,7 @@ module _ {D : Type 0} (disk_of : D → Disk) (last after : EndpointValue D) (log
 -- a command is under way, none waits, or the endpoint is stopped
 during_held : (s : State) (c : Command) (under_way : Option Command) → under_way ≡ Some c
     → state_taking_first s under_way s.waiting ≡ s
-during_held s c None is = absurd (none_under_way c is)
+during_held s c None is = absurd (none_some c is)
 during_held s c (Some held) is = refl
 
 during_none : (s : State) (under_way : Option Command) (waiting : List Waiting) → waiting ≡ []
@@ -166,10 +167,6 @@ none_there whose raise [] is = refl
 none_there whose None (first ∷ rest) is = absurd (cc)
 none_there turn.Reservation (Some raise) (first ∷ rest) is = absurd (cc)
 none_there turn.Command (Some raise) (first ∷ rest) is = absurd (cc)
-
-stopped_or_not : (stopped : Bool) → (stopped ≡ true) ⊎ (stopped ≡ false)
-stopped_or_not true = inl refl
-stopped_or_not false = inr refl
 
 -- ---- the whole
 
@@ -207,7 +204,7 @@ module _ {D : Type 0} (disk_of : D → Disk) (last after : EndpointValue D) (log
       by_during (during_none (state_of last logs) last.under_way last.waiting
       (none_there last.turn (raise_in last) last.waiting next))
   by_piece (Some (ToKeep first)) next at apart = absurd (apart (first, at.reserving, next))
-  by_piece (Some (ToRaise raise)) next at apart = elim (stopped_or_not (is_stopped last)) [
+  by_piece (Some (ToRaise raise)) next at apart = elim (cases_Bool (is_stopped last)) [
     | inl stopped ↦ by_during (during_stopped (state_of last logs) last.under_way last.waiting stopped)
     | inr running ↦ by_raise raise at next running
   ]

@@ -5,6 +5,7 @@ use Rattle.std.proofs.lemmas.List.{length-replicate}
 use Rattle.macs_fields.specs.First.{IsFirst, NoneHolds}
 use Rattle.macs_record.specs.Decoding.{HasFields, HasKind, RecordFaultHolds, IsSectorOf, record_faults}
 use Rattle.macs_record.specs.Layout.{IsRecord, fields_of, front_of, kind_of, octets_of_kind}
+use Rattle.macs_record.specs.Reading.{FieldsFound}
 use Rattle.macs_record.specs.Sectors.{padded_sector}
 use Rattle.macs_record.specs.declared.kind.Kind.{Kind}
 use Rattle.macs_record.specs.declared.record.Record.{Record}
@@ -15,12 +16,6 @@ use Rattle.macs_record.proofs.Numbers.{never}
 abbrev pub KindFound : List ℕ → Option Kind → List ℕ → Type 0
 KindFound octets result left =
     (kind : Kind) (rest : List ℕ) → octets ≡ octets_of_kind kind ++ rest → (result ≡ Some kind) × (left ≡ rest)
-
--- the fields are read wherever they are
-abbrev pub FieldsFound : Kind → List ℕ → Option Record → List ℕ → Type 0
-FieldsFound kind octets result left =
-    (r : Record) (rest : List ℕ) → IsRecord r → kind_of r ≡ kind → octets ≡ fields_of r ++ rest
-    → (result ≡ Some r) × (left ≡ rest)
 
 pub no_fields : (kind : Kind) (sector behind left : List ℕ) → KindFound sector (Some kind) behind
     → FieldsFound kind behind None left → ¬ HasFields sector

@@ -5,7 +5,7 @@ use Rattle.std.proofs.Common.{ap, arith, append_assoc, inl, inr}
 use Rattle.std.specs.Int.{from_be_bytes, to_be_bytes, w32, w64}
 use Rattle.std.specs.List.{All, concat}
 use Rattle.std.proofs.lemmas.Bool.{ne_eqb}
-use Rattle.std.proofs.lemmas.List.{drop_at, take_at}
+use Rattle.std.proofs.lemmas.List.{append_cancel_left, drop_at, take_at}
 use Rattle.std.proofs.lemmas.List.Elements.{All-head, All-tail}
 use Rattle.std.proofs.lemmas.Nat.{from_be_bytes-to_be_bytes_4, from_be_bytes-to_be_bytes_8}
 use Rattle.macs_fields.specs.Fields.{octets_of}
@@ -273,6 +273,18 @@ back (RxCeiling sci an ceiling) rest is =
     cut (λ (front behind : List ℕ). RxCeiling front (octet 0 behind) (number_8 (drop 1 behind))) 8 sci _ _ is.0.size
     (append_assoc sci _ rest)
     ∙ ap (RxCeiling sci an) (from_be_bytes-to_be_bytes_8 ceiling (omega (arith, is.2.1)))
+
+-- what was read as a record of a kind is the one whose fields come first
+pub one_read : (kind : Kind) (old : List ℕ) (a : Record) (left : List ℕ)
+    → IsRecord a × (kind_of a ≡ kind) × (old ≡ fields_of a ++ left) → (b : Record) (rest : List ℕ) → IsRecord b
+    → kind_of b ≡ kind → old ≡ fields_of b ++ rest → (Some a ≡ Some b) × (left ≡ rest)
+one_read kind old a left read b rest range of_kind whole =
+    let kinds : kind_of a ≡ kind_of b = read.1 ∙ sym of_kind in
+    let octets : fields_of a ++ left ≡ fields_of b ++ rest = sym read.2 ∙ whole in
+    let same : a ≡ b = sym (back a left read.0) ∙ (λ i. unread (kinds i) (octets i)) ∙ back b rest range in (
+      ap (λ (r : Record). Some r) same,
+      append_cancel_left (fields_of b) left rest (ap (λ (r : Record). fields_of r ++ left) (sym same) ∙ octets),
+    )
 
 pub one_record : (a b : Record) → IsRecord a → IsRecord b → sector_of a ≡ sector_of b → a ≡ b
 one_record a b is_a is_b same =

@@ -1,6 +1,7 @@
 pub mod Ranges
 pub mod Sectors
 pub mod Layout
+pub mod Reading
 pub mod Decoding
 pub mod Commands
 pub mod Gates

@@ -1,11 +1,11 @@
 //! Sectors as records.
 
-ghost use Rattle.std.specs.Prelude.{◌≡◌, ◌≤◌, ◌↔◌, ◌++◌, ℕ, List, IfSome, IsTrue, Ok, Err, Some};
+ghost use Rattle.std.specs.Prelude.{◌≡◌, ◌↔◌, ◌++◌, ℕ, List, IfSome, Ok, Err, Some};
 ghost use Rattle.std.specs.Prelude.{true};
 ghost use Rattle.macs_fields.specs.First.{IsFirst};
 ghost use Rattle.macs_record.specs.Decoding.{RecordFaultHolds, IsSectorOf, record_faults};
-ghost use Rattle.macs_record.specs.Layout.{IsRecord, fields_of, has_one_field, kind_of};
-ghost use Rattle.macs_record.specs.Layout.{octets_of_kind, of_length};
+ghost use Rattle.macs_record.specs.Layout.{has_one_field, octets_of_kind, of_length};
+ghost use Rattle.macs_record.specs.Reading.{FieldsFound, FieldsRead};
 ghost use Rattle.macs_record.specs.declared.kind.Kind.{Kind};
 ghost use Rattle.macs_record.specs.declared.kind.Kind.TheVariants as kinds;
 ghost use Rattle.macs_record.specs.declared.record.Record.{Record};
@@ -52,11 +52,8 @@ fn read_kind(from: &mut Reader<'_>) -> Option<Kind>
 
 /// Reads the fields of a record of this kind.
 fn read_fields(kind: Kind, from: &mut Reader<'_>) -> Option<Record>
-    ensures some { IfSome result
-        (λ r. IsRecord r × (kind_of r ≡ kind) × (from.old ≡ fields_of r ++ from.new)) }
-    ensures found { (r : Record) (rest : List ℕ) → IsRecord r → kind_of r ≡ kind
-        → from.old ≡ fields_of r ++ rest
-        → (result ≡ Some r) × (from.new ≡ rest) }
+    ensures some { FieldsRead kind from.old result from.new }
+    ensures found { FieldsFound kind from.old result from.new }
 {
     match kind {
         Kind::Settings => read_settings(from),
@@ -79,11 +76,8 @@ fn read_fields(kind: Kind, from: &mut Reader<'_>) -> Option<Record>
 /// Reads the field of a record of this kind, which has only one.
 fn read_one_field(kind: Kind, from: &mut Reader<'_>) -> Option<Record>
     requires { has_one_field kind ≡ true }
-    ensures some { IfSome result
-        (λ r. IsRecord r × (kind_of r ≡ kind) × (from.old ≡ fields_of r ++ from.new)) }
-    ensures found { (r : Record) (rest : List ℕ) → IsRecord r → kind_of r ≡ kind
-        → from.old ≡ fields_of r ++ rest
-        → (result ≡ Some r) × (from.new ≡ rest) }
+    ensures some { FieldsRead kind from.old result from.new }
+    ensures found { FieldsFound kind from.old result from.new }
 {
     match kind {
         Kind::Channel => read_channel(from),
@@ -100,11 +94,8 @@ fn read_one_field(kind: Kind, from: &mut Reader<'_>) -> Option<Record>
 
 /// Reads a receive channel of a snapshot.
 fn read_channel(from: &mut Reader<'_>) -> Option<Record>
-    ensures some { IfSome result
-        (λ r. IsRecord r × (kind_of r ≡ kinds.Channel) × (from.old ≡ fields_of r ++ from.new)) }
-    ensures found { (r : Record) (rest : List ℕ) → IsRecord r → kind_of r ≡ kinds.Channel
-        → from.old ≡ fields_of r ++ rest
-        → (result ≡ Some r) × (from.new ≡ rest) }
+    ensures some { FieldsRead kinds.Channel from.old result from.new }
+    ensures found { FieldsFound kinds.Channel from.old result from.new }
 {
     let sci = from.sci()?;
     Some(Record::Channel { sci })
@@ -112,11 +103,8 @@ fn read_channel(from: &mut Reader<'_>) -> Option<Record>
 
 /// Reads how frames are validated from now on.
 fn read_set_validate(from: &mut Reader<'_>) -> Option<Record>
-    ensures some { IfSome result
-        (λ r. IsRecord r × (kind_of r ≡ kinds.SetValidate) × (from.old ≡ fields_of r ++ from.new)) }
-    ensures found { (r : Record) (rest : List ℕ) → IsRecord r → kind_of r ≡ kinds.SetValidate
-        → from.old ≡ fields_of r ++ rest
-        → (result ≡ Some r) × (from.new ≡ rest) }
+    ensures some { FieldsRead kinds.SetValidate from.old result from.new }
+    ensures found { FieldsFound kinds.SetValidate from.old result from.new }
 {
     let validate = from.validate()?;
     Some(Record::SetValidate(validate))
@@ -124,11 +112,8 @@ fn read_set_validate(from: &mut Reader<'_>) -> Option<Record>
 
 /// Reads the replay protection from now on.
 fn read_set_replay(from: &mut Reader<'_>) -> Option<Record>
-    ensures some { IfSome result
-        (λ r. IsRecord r × (kind_of r ≡ kinds.SetReplay) × (from.old ≡ fields_of r ++ from.new)) }
-    ensures found { (r : Record) (rest : List ℕ) → IsRecord r → kind_of r ≡ kinds.SetReplay
-        → from.old ≡ fields_of r ++ rest
-        → (result ≡ Some r) × (from.new ≡ rest) }
+    ensures some { FieldsRead kinds.SetReplay from.old result from.new }
+    ensures found { FieldsFound kinds.SetReplay from.old result from.new }
 {
     let replay = from.replay()?;
     Some(Record::SetReplay(replay))
@@ -136,11 +121,8 @@ fn read_set_replay(from: &mut Reader<'_>) -> Option<Record>
 
 /// Reads how frames name their channel from now on.
 fn read_set_sci_mode(from: &mut Reader<'_>) -> Option<Record>
-    ensures some { IfSome result
-        (λ r. IsRecord r × (kind_of r ≡ kinds.SetSciMode) × (from.old ≡ fields_of r ++ from.new)) }
-    ensures found { (r : Record) (rest : List ℕ) → IsRecord r → kind_of r ≡ kinds.SetSciMode
-        → from.old ≡ fields_of r ++ rest
-        → (result ≡ Some r) × (from.new ≡ rest) }
+    ensures some { FieldsRead kinds.SetSciMode from.old result from.new }
+    ensures found { FieldsFound kinds.SetSciMode from.old result from.new }
 {
     let sci_mode = from.sci_mode()?;
     Some(Record::SetSciMode(sci_mode))
@@ -148,11 +130,8 @@ fn read_set_sci_mode(from: &mut Reader<'_>) -> Option<Record>
 
 /// Reads the transmit association that encodes from now on.
 fn read_tx_use(from: &mut Reader<'_>) -> Option<Record>
-    ensures some { IfSome result
-        (λ r. IsRecord r × (kind_of r ≡ kinds.TxUse) × (from.old ≡ fields_of r ++ from.new)) }
-    ensures found { (r : Record) (rest : List ℕ) → IsRecord r → kind_of r ≡ kinds.TxUse
-        → from.old ≡ fields_of r ++ rest
-        → (result ≡ Some r) × (from.new ≡ rest) }
+    ensures some { FieldsRead kinds.TxUse from.old result from.new }
+    ensures found { FieldsFound kinds.TxUse from.old result from.new }
 {
     let an = from.an()?;
     Some(Record::TxUse { an })
@@ -160,11 +139,8 @@ fn read_tx_use(from: &mut Reader<'_>) -> Option<Record>
 
 /// Reads a removed transmit association.
 fn read_tx_remove(from: &mut Reader<'_>) -> Option<Record>
-    ensures some { IfSome result
-        (λ r. IsRecord r × (kind_of r ≡ kinds.TxRemove) × (from.old ≡ fields_of r ++ from.new)) }
-    ensures found { (r : Record) (rest : List ℕ) → IsRecord r → kind_of r ≡ kinds.TxRemove
-        → from.old ≡ fields_of r ++ rest
-        → (result ≡ Some r) × (from.new ≡ rest) }
+    ensures some { FieldsRead kinds.TxRemove from.old result from.new }
+    ensures found { FieldsFound kinds.TxRemove from.old result from.new }
 {
     let an = from.an()?;
     Some(Record::TxRemove { an })
@@ -172,11 +148,8 @@ fn read_tx_remove(from: &mut Reader<'_>) -> Option<Record>
 
 /// Reads a new receive channel.
 fn read_rx_add(from: &mut Reader<'_>) -> Option<Record>
-    ensures some { IfSome result
-        (λ r. IsRecord r × (kind_of r ≡ kinds.RxAdd) × (from.old ≡ fields_of r ++ from.new)) }
-    ensures found { (r : Record) (rest : List ℕ) → IsRecord r → kind_of r ≡ kinds.RxAdd
-        → from.old ≡ fields_of r ++ rest
-        → (result ≡ Some r) × (from.new ≡ rest) }
+    ensures some { FieldsRead kinds.RxAdd from.old result from.new }
+    ensures found { FieldsFound kinds.RxAdd from.old result from.new }
 {
     let sci = from.sci()?;
     Some(Record::RxAdd { sci })
@@ -184,11 +157,8 @@ fn read_rx_add(from: &mut Reader<'_>) -> Option<Record>
 
 /// Reads a removed receive channel.
 fn read_rx_drop(from: &mut Reader<'_>) -> Option<Record>
-    ensures some { IfSome result
-        (λ r. IsRecord r × (kind_of r ≡ kinds.RxDrop) × (from.old ≡ fields_of r ++ from.new)) }
-    ensures found { (r : Record) (rest : List ℕ) → IsRecord r → kind_of r ≡ kinds.RxDrop
-        → from.old ≡ fields_of r ++ rest
-        → (result ≡ Some r) × (from.new ≡ rest) }
+    ensures some { FieldsRead kinds.RxDrop from.old result from.new }
+    ensures found { FieldsFound kinds.RxDrop from.old result from.new }
 {
     let sci = from.sci()?;
     Some(Record::RxDrop { sci })
@@ -196,11 +166,8 @@ fn read_rx_drop(from: &mut Reader<'_>) -> Option<Record>
 
 /// Reads the settings of a snapshot.
 fn read_settings(from: &mut Reader<'_>) -> Option<Record>
-    ensures some { IfSome result
-        (λ r. IsRecord r × (kind_of r ≡ kinds.Settings) × (from.old ≡ fields_of r ++ from.new)) }
-    ensures found { (r : Record) (rest : List ℕ) → IsRecord r → kind_of r ≡ kinds.Settings
-        → from.old ≡ fields_of r ++ rest
-        → (result ≡ Some r) × (from.new ≡ rest) }
+    ensures some { FieldsRead kinds.Settings from.old result from.new }
+    ensures found { FieldsFound kinds.Settings from.old result from.new }
 {
     let validate = from.validate()?;
     let replay = from.replay()?;
@@ -216,11 +183,10 @@ fn read_settings(from: &mut Reader<'_>) -> Option<Record>
 
 /// Reads a transmit association of a snapshot, with a key of this length.
 fn read_tx_sa(length: KeyLength, from: &mut Reader<'_>) -> Option<Record>
-    ensures some { IfSome result (λ r. IsRecord r × (kind_of r
-        ≡ of_length length kinds.TxSa kinds.TxSaLong) × (from.old ≡ fields_of r ++ from.new)) }
-    ensures found { (r : Record) (rest : List ℕ) → IsRecord r
-        → kind_of r ≡ of_length length kinds.TxSa kinds.TxSaLong → from.old ≡ fields_of r ++ rest
-        → (result ≡ Some r) × (from.new ≡ rest) }
+    ensures some { FieldsRead (of_length length kinds.TxSa kinds.TxSaLong)
+        from.old result from.new }
+    ensures found { FieldsFound (of_length length kinds.TxSa kinds.TxSaLong)
+        from.old result from.new }
 {
     let an = from.an()?;
     let key = from.key(length)?;
@@ -232,11 +198,10 @@ fn read_tx_sa(length: KeyLength, from: &mut Reader<'_>) -> Option<Record>
 
 /// Reads a receive association of a snapshot, with a key of this length.
 fn read_rx_sa(length: KeyLength, from: &mut Reader<'_>) -> Option<Record>
-    ensures some { IfSome result (λ r. IsRecord r × (kind_of r
-        ≡ of_length length kinds.RxSa kinds.RxSaLong) × (from.old ≡ fields_of r ++ from.new)) }
-    ensures found { (r : Record) (rest : List ℕ) → IsRecord r
-        → kind_of r ≡ of_length length kinds.RxSa kinds.RxSaLong → from.old ≡ fields_of r ++ rest
-        → (result ≡ Some r) × (from.new ≡ rest) }
+    ensures some { FieldsRead (of_length length kinds.RxSa kinds.RxSaLong)
+        from.old result from.new }
+    ensures found { FieldsFound (of_length length kinds.RxSa kinds.RxSaLong)
+        from.old result from.new }
 {
     let sci = from.sci()?;
     let an = from.an()?;
@@ -254,11 +219,8 @@ fn read_rx_sa(length: KeyLength, from: &mut Reader<'_>) -> Option<Record>
 
 /// Reads spent keys of a snapshot.
 fn read_spent(from: &mut Reader<'_>) -> Option<Record>
-    ensures some { IfSome result
-        (λ r. IsRecord r × (kind_of r ≡ kinds.Spent) × (from.old ≡ fields_of r ++ from.new)) }
-    ensures found { (r : Record) (rest : List ℕ) → IsRecord r → kind_of r ≡ kinds.Spent
-        → from.old ≡ fields_of r ++ rest
-        → (result ≡ Some r) × (from.new ≡ rest) }
+    ensures some { FieldsRead kinds.Spent from.old result from.new }
+    ensures found { FieldsFound kinds.Spent from.old result from.new }
 {
     let role = from.role()?;
     let fingerprints = from.fingerprints()?;
@@ -267,11 +229,10 @@ fn read_spent(from: &mut Reader<'_>) -> Option<Record>
 
 /// Reads a new transmit association, with a key of this length.
 fn read_tx_install(length: KeyLength, from: &mut Reader<'_>) -> Option<Record>
-    ensures some { IfSome result (λ r. IsRecord r × (kind_of r ≡ of_length length kinds.TxInstall
-        kinds.TxInstallLong) × (from.old ≡ fields_of r ++ from.new)) }
-    ensures found { (r : Record) (rest : List ℕ) → IsRecord r → kind_of r
-        ≡ of_length length kinds.TxInstall kinds.TxInstallLong → from.old ≡ fields_of r ++ rest
-        → (result ≡ Some r) × (from.new ≡ rest) }
+    ensures some { FieldsRead (of_length length kinds.TxInstall kinds.TxInstallLong)
+        from.old result from.new }
+    ensures found { FieldsFound (of_length length kinds.TxInstall kinds.TxInstallLong)
+        from.old result from.new }
 {
     let an = from.an()?;
     let key = from.key(length)?;
@@ -283,11 +244,10 @@ fn read_tx_install(length: KeyLength, from: &mut Reader<'_>) -> Option<Record>
 
 /// Reads a new receive association, with a key of this length.
 fn read_rx_install(length: KeyLength, from: &mut Reader<'_>) -> Option<Record>
-    ensures some { IfSome result (λ r. IsRecord r × (kind_of r ≡ of_length length kinds.RxInstall
-        kinds.RxInstallLong) × (from.old ≡ fields_of r ++ from.new)) }
-    ensures found { (r : Record) (rest : List ℕ) → IsRecord r → kind_of r
-        ≡ of_length length kinds.RxInstall kinds.RxInstallLong → from.old ≡ fields_of r ++ rest
-        → (result ≡ Some r) × (from.new ≡ rest) }
+    ensures some { FieldsRead (of_length length kinds.RxInstall kinds.RxInstallLong)
+        from.old result from.new }
+    ensures found { FieldsFound (of_length length kinds.RxInstall kinds.RxInstallLong)
+        from.old result from.new }
 {
     let sci = from.sci()?;
     let an = from.an()?;
@@ -300,11 +260,8 @@ fn read_rx_install(length: KeyLength, from: &mut Reader<'_>) -> Option<Record>
 
 /// Reads a removed receive association.
 fn read_rx_remove(from: &mut Reader<'_>) -> Option<Record>
-    ensures some { IfSome result
-        (λ r. IsRecord r × (kind_of r ≡ kinds.RxRemove) × (from.old ≡ fields_of r ++ from.new)) }
-    ensures found { (r : Record) (rest : List ℕ) → IsRecord r → kind_of r ≡ kinds.RxRemove
-        → from.old ≡ fields_of r ++ rest
-        → (result ≡ Some r) × (from.new ≡ rest) }
+    ensures some { FieldsRead kinds.RxRemove from.old result from.new }
+    ensures found { FieldsFound kinds.RxRemove from.old result from.new }
 {
     let sci = from.sci()?;
     let an = from.an()?;
@@ -313,11 +270,8 @@ fn read_rx_remove(from: &mut Reader<'_>) -> Option<Record>
 
 /// Reads the raised ceiling of a transmit association.
 fn read_tx_ceiling(from: &mut Reader<'_>) -> Option<Record>
-    ensures some { IfSome result
-        (λ r. IsRecord r × (kind_of r ≡ kinds.TxCeiling) × (from.old ≡ fields_of r ++ from.new)) }
-    ensures found { (r : Record) (rest : List ℕ) → IsRecord r → kind_of r ≡ kinds.TxCeiling
-        → from.old ≡ fields_of r ++ rest
-        → (result ≡ Some r) × (from.new ≡ rest) }
+    ensures some { FieldsRead kinds.TxCeiling from.old result from.new }
+    ensures found { FieldsFound kinds.TxCeiling from.old result from.new }
 {
     let an = from.an()?;
     let ceiling = from.ceiling()?;
@@ -326,11 +280,8 @@ fn read_tx_ceiling(from: &mut Reader<'_>) -> Option<Record>
 
 /// Reads the raised ceiling of a receive association.
 fn read_rx_ceiling(from: &mut Reader<'_>) -> Option<Record>
-    ensures some { IfSome result
-        (λ r. IsRecord r × (kind_of r ≡ kinds.RxCeiling) × (from.old ≡ fields_of r ++ from.new)) }
-    ensures found { (r : Record) (rest : List ℕ) → IsRecord r → kind_of r ≡ kinds.RxCeiling
-        → from.old ≡ fields_of r ++ rest
-        → (result ≡ Some r) × (from.new ≡ rest) }
+    ensures some { FieldsRead kinds.RxCeiling from.old result from.new }
+    ensures found { FieldsFound kinds.RxCeiling from.old result from.new }
 {
     let sci = from.sci()?;
     let an = from.an()?;

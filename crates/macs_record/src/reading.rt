@@ -1,6 +1,6 @@
 //! A sector being read from its start.
 
-ghost use Rattle.std.specs.Prelude.{◌≡◌, ◌<◌, ◌^◌, ◌↔◌, ◌++◌, ◌∷◌, ℕ, Bool, List, [], IfSome};
+ghost use Rattle.std.specs.Prelude.{◌≡◌, ◌<◌, ◌^◌, ◌↔◌, ◌++◌, ◌∷◌, ℕ, Bool, List, IfSome};
 ghost use Rattle.std.specs.Prelude.{IsTrue, Some, Option, length, replicate};
 ghost use Rattle.std.specs.Int.{to_be_bytes, w32, w64};
 ghost use Rattle.macs_fields.specs.Fields.{octets_of};
@@ -15,6 +15,7 @@ ghost use Rattle.macs_record.specs.Ranges.{IsCeiling, IsEncoding, IsFingerprints
 ghost use Rattle.macs_record.specs.Layout.{encoding_octet, fingerprint_octets, flag_octet};
 ghost use Rattle.macs_record.specs.Layout.{mode_octet, protection_octets, replay_octets};
 ghost use Rattle.macs_record.specs.Layout.{role_octet, validate_octet};
+ghost use Rattle.macs_record.specs.Reading.{IsFound, IsRead};
 
 use crate::ceiling::Ceiling;
 use crate::key_length::KeyLength;
@@ -46,8 +47,7 @@ impl<'a> Reader<'a> {
     }
 
     pub(crate) fn octets<const N: usize>(&mut self) -> Option<[u8; N]>
-        ensures some { IfSome result
-            (λ octets. IsOctets N octets × (self.old ≡ octets ++ self.new)) }
+        ensures some { IsRead (IsOctets N) (λ octets. octets) self.old result self.new }
         ensures found { (octets rest : List ℕ) → length octets ≡ N → self.old ≡ octets ++ rest
             → (result ≡ Some octets) × (self.new ≡ rest) }
     {
@@ -69,11 +69,10 @@ impl<'a> Reader<'a> {
 
     /// A big-endian number of 4 octets.
     pub(crate) fn u32(&mut self) -> Option<u32>
-        ensures some { IfSome result
-            (λ number. (number < 2 ^ 32) × (self.old ≡ to_be_bytes w32 number ++ self.new)) }
-        ensures found { (number : ℕ) (rest : List ℕ) → number < 2 ^ 32
-            → self.old ≡ to_be_bytes w32 number ++ rest
-            → (result ≡ Some number) × (self.new ≡ rest) }
+        ensures some { IsRead (λ number. number < 2 ^ 32) (to_be_bytes w32)
+            self.old result self.new }
+        ensures found { IsFound (λ number. number < 2 ^ 32) (to_be_bytes w32)
+            self.old result self.new }
     {
         let octets = self.octets()?;
         Some(u32::from_be_bytes(octets))
@@ -81,11 +80,10 @@ impl<'a> Reader<'a> {
 
     /// A big-endian number of 8 octets.
     pub(crate) fn u64(&mut self) -> Option<u64>
-        ensures some { IfSome result
-            (λ number. (number < 2 ^ 64) × (self.old ≡ to_be_bytes w64 number ++ self.new)) }
-        ensures found { (number : ℕ) (rest : List ℕ) → number < 2 ^ 64
-            → self.old ≡ to_be_bytes w64 number ++ rest
-            → (result ≡ Some number) × (self.new ≡ rest) }
+        ensures some { IsRead (λ number. number < 2 ^ 64) (to_be_bytes w64)
+            self.old result self.new }
+        ensures found { IsFound (λ number. number < 2 ^ 64) (to_be_bytes w64)
+            self.old result self.new }
     {
         let octets = self.octets()?;
         Some(u64::from_be_bytes(octets))
@@ -117,11 +115,10 @@ impl<'a> Reader<'a> {
     }
 
     pub(crate) fn replay(&mut self) -> Option<Replay>
-        ensures some { IfSome result
-            (λ replay. (replay.window < 2 ^ 32) × (self.old ≡ replay_octets replay ++ self.new)) }
-        ensures found { (replay : Replay) (rest : List ℕ) → replay.window < 2 ^ 32
-            → self.old ≡ replay_octets replay ++ rest
-            → (result ≡ Some replay) × (self.new ≡ rest) }
+        ensures some { IsRead (λ replay. replay.window < 2 ^ 32) replay_octets
+            self.old result self.new }
+        ensures found { IsFound (λ replay. replay.window < 2 ^ 32) replay_octets
+            self.old result self.new }
     {
         let on = self.flag()?;
         let window = self.u32()?;
@@ -164,18 +161,16 @@ impl<'a> Reader<'a> {
     }
 
     pub(crate) fn sci(&mut self) -> Option<Sci>
-        ensures some { IfSome result (λ sci. IsSci sci × (self.old ≡ sci ++ self.new)) }
-        ensures found { (sci rest : List ℕ) → IsSci sci → self.old ≡ sci ++ rest
-            → (result ≡ Some sci) × (self.new ≡ rest) }
+        ensures some { IsRead IsSci (λ sci. sci) self.old result self.new }
+        ensures found { IsFound IsSci (λ sci. sci) self.old result self.new }
     {
         Some(Sci(self.octets()?))
     }
 
     /// A key of this length.
     pub(crate) fn key(&mut self, length: KeyLength) -> Option<KeyOctets>
-        ensures some { IfSome result (λ key. IsKeyOf length key × (self.old ≡ key ++ self.new)) }
-        ensures found { (key rest : List ℕ) → IsKeyOf length key → self.old ≡ key ++ rest
-            → (result ≡ Some key) × (self.new ≡ rest) }
+        ensures some { IsRead (IsKeyOf length) (λ key. key) self.old result self.new }
+        ensures found { IsFound (IsKeyOf length) (λ key. key) self.old result self.new }
     {
         match length {
             KeyLength::Short => self.short_key(),
@@ -185,38 +180,30 @@ impl<'a> Reader<'a> {
 
     /// A key of 16 octets.
     fn short_key(&mut self) -> Option<KeyOctets>
-        ensures some { IfSome result (λ key. IsOctets 16 key × (self.old ≡ key ++ self.new)) }
-        ensures found { (key rest : List ℕ) → IsOctets 16 key → self.old ≡ key ++ rest
-            → (result ≡ Some key) × (self.new ≡ rest) }
+        ensures some { IsRead (IsOctets 16) (λ key. key) self.old result self.new }
+        ensures found { IsFound (IsOctets 16) (λ key. key) self.old result self.new }
     {
         Some(KeyOctets::of(Key::Short(self.octets()?)))
     }
 
     /// A key of 32 octets.
     fn long_key(&mut self) -> Option<KeyOctets>
-        ensures some { IfSome result (λ key. IsOctets 32 key × (self.old ≡ key ++ self.new)) }
-        ensures found { (key rest : List ℕ) → IsOctets 32 key → self.old ≡ key ++ rest
-            → (result ≡ Some key) × (self.new ≡ rest) }
+        ensures some { IsRead (IsOctets 32) (λ key. key) self.old result self.new }
+        ensures found { IsFound (IsOctets 32) (λ key. key) self.old result self.new }
     {
         Some(KeyOctets::of(Key::Long(self.octets()?)))
     }
 
     pub(crate) fn start(&mut self) -> Option<Pn>
-        ensures some { IfSome result
-            (λ start. IsStart start × (self.old ≡ to_be_bytes w32 start ++ self.new)) }
-        ensures found { (start : ℕ) (rest : List ℕ) → IsStart start
-            → self.old ≡ to_be_bytes w32 start ++ rest
-            → (result ≡ Some start) × (self.new ≡ rest) }
+        ensures some { IsRead IsStart (to_be_bytes w32) self.old result self.new }
+        ensures found { IsFound IsStart (to_be_bytes w32) self.old result self.new }
     {
         Pn::new(self.u32()?)
     }
 
     pub(crate) fn ceiling(&mut self) -> Option<Ceiling>
-        ensures some { IfSome result
-            (λ ceiling. IsCeiling ceiling × (self.old ≡ to_be_bytes w64 ceiling ++ self.new)) }
-        ensures found { (ceiling : ℕ) (rest : List ℕ) → IsCeiling ceiling
-            → self.old ≡ to_be_bytes w64 ceiling ++ rest
-            → (result ≡ Some ceiling) × (self.new ≡ rest) }
+        ensures some { IsRead IsCeiling (to_be_bytes w64) self.old result self.new }
+        ensures found { IsFound IsCeiling (to_be_bytes w64) self.old result self.new }
     {
         Ceiling::new(self.u64()?)
     }
@@ -255,11 +242,8 @@ impl<'a> Reader<'a> {
     }
 
     pub(crate) fn fingerprints(&mut self) -> Option<Fingerprints>
-        ensures some { IfSome result
-            (λ items. IsFingerprints items × (self.old ≡ fingerprint_octets items ++ self.new)) }
-        ensures found { (items : List (List ℕ)) (rest : List ℕ) → IsFingerprints items
-            → self.old ≡ fingerprint_octets items ++ rest
-            → (result ≡ Some items) × (self.new ≡ rest) }
+        ensures some { IsRead IsFingerprints fingerprint_octets self.old result self.new }
+        ensures found { IsFound IsFingerprints fingerprint_octets self.old result self.new }
     {
         let count = self.octet()?;
         if count == 0 {
