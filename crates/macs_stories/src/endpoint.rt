@@ -5,7 +5,9 @@ use crate::disk::{StoryDisk, an_of, ask_config, command_of, sci_of, tell_identit
 use crate::passing::pass;
 use crate::text::{Answer, Words, whole};
 use macs_config::Command;
-use macs_endpoint::{CommandFault, Endpoint, RefillFault, Step, StepFault, SubmitFault, Ticket};
+use macs_endpoint::{
+    CommandFault, Endpoint, RefillFault, RestFault, Step, StepFault, SubmitFault, Ticket,
+};
 use macs_rxsc::RxNumbers;
 use std::alloc::Global;
 
@@ -26,6 +28,10 @@ fn submitted(endpoint: &mut Played, command: Command) -> Result<Ticket, SubmitFa
 
 fn refilled(endpoint: &mut Played) -> Result<(), RefillFault> {
     endpoint.refill()
+}
+
+fn rested(endpoint: &mut Played) -> Result<(), RestFault> {
+    endpoint.rest()
 }
 
 fn advanced(endpoint: &mut Played) -> Result<Step, StepFault> {
@@ -103,6 +109,7 @@ fn steps(endpoint: &mut Played, to_a_command: bool, answer: &mut Answer) {
 fn work(endpoint: &mut Played, words: Words<'_>, answer: &mut Answer) -> Option<()> {
     match words.rest() {
         "refill" => answer.done(refilled(endpoint)),
+        "plan-end" => answer.done(rested(endpoint)),
         "step" => tell_step(advanced(endpoint), answer),
         "rest" => steps(endpoint, false, answer),
         "finish" => steps(endpoint, true, answer),
