@@ -1,16 +1,15 @@
 -- Straight-line circuits of xor and and, on planes and on the bits of one octet alike.
 use Rattle.std.proofs.Common.{◌≡◌, ℕ, zero, suc, ◌*◌, ◌/◌, ◌%◌, ◌^◌, ◌<◌, List, [], ◌∷◌, ◌++◌, get_or, length}
-use Rattle.std.proofs.Common.{replicate, bit_xor, bit_and, refl, ap, ap₂, sym, ◌∙◌, arith, Bool, true, false}
+use Rattle.std.proofs.Common.{replicate, bit_xor, bit_and, refl, ap, ap₂, sym, ◌∙◌, arith, Bool, true}
 use Rattle.std.specs.Simd.Lanes.{zip2}
 use Rattle.std.specs.Int.{bit_at}
 use Rattle.std.specs.Prelude.{◌&&◌, nat_eq}
 use Rattle.std.proofs.lemmas.List.FromFn.{get_or-map-range_with_len}
 use Rattle.std.proofs.lemmas.List.{length-replicate}
-use Rattle.std.proofs.lemmas.Simd.{get_or-replicate}
+use Rattle.std.proofs.lemmas.Simd.{get_or-replicate, get_or-zip2, length-zip2}
 use Rattle.std.proofs.lemmas.Nat.{and_mod, and_shr, xor_mod, xor_shr}
 use Rattle.std.proofs.lemmas.Nat.Bits.{bit_at-lt, bit_at-zero, bit_at_ones}
-use Rattle.std.proofs.lemmas.Bool.{eqb-true}
-use Rattle.std.proofs.lemmas.Simd.{get_or-zip2, length-zip2}
+use Rattle.std.proofs.lemmas.Bool.{and_parts, eqb-true}
 use Rattle.macs_gf.proofs.Xor.{digit_product, xor_middle}
 use Rattle.macs_aes.specs.Blocks.{ArePlanes, bit_in, bits_in, block_in, blocks_in, zeros, combined, octet, octet_in}
 
@@ -119,13 +118,6 @@ gate_bit lanes (And a b) wires i j p h =
     (lanes_of lanes wires b p) h
     ∙ ap₂ bit_and (bit_of lanes wires a i j h) (bit_of lanes wires b i j h)
 
-run_planes : (lanes : ℕ) (gs : List Gate) (wires : List (List ℕ)) → ArePlanes lanes wires
-    → ArePlanes lanes (run lanes gs wires)
-unfolding run
-run_planes lanes [] wires p = p
-run_planes lanes (g ∷ gs) wires p = run_planes lanes gs (wires ++ gate lanes g wires ∷ [])
-    (push_planes lanes wires (gate lanes g wires) p (gate_lanes lanes g wires p))
-
 run_bits : (lanes : ℕ) (gs : List Gate) (wires : List (List ℕ)) (i j : ℕ) → ArePlanes lanes wires → i < lanes
     → bits_in (run lanes gs wires) i j ≡ bit_run gs (bits_in wires i j)
 unfolding run bit_run
@@ -135,12 +127,6 @@ run_bits lanes (g ∷ gs) wires i j p h =
     (push_planes lanes wires (gate lanes g wires) p (gate_lanes lanes g wires p)) h
     ∙ ap (bit_run gs) (bits_in-push wires (gate lanes g wires) i j
     ∙ ap (λ (x : ℕ). bits_in wires i j ++ x ∷ []) (gate_bit lanes g wires i j p h))
-
-pick_planes : (lanes : ℕ) (is : List ℕ) (wires : List (List ℕ)) → ArePlanes lanes wires
-    → ArePlanes lanes (pick lanes is wires)
-unfolding pick
-pick_planes lanes [] wires p = tt
-pick_planes lanes (k ∷ is) wires p = (lanes_of lanes wires k p, pick_planes lanes is wires p)
 
 pick_bits : (lanes : ℕ) (is : List ℕ) (wires : List (List ℕ)) (i j : ℕ) → i < lanes
     → bits_in (pick lanes is wires) i j ≡ bit_pick is (bits_in wires i j)
@@ -154,11 +140,6 @@ circuit lanes gs outs wires = pick lanes outs (run lanes gs wires)
 
 unfoldable pub bit_circuit : List Gate → List ℕ → List ℕ → List ℕ
 bit_circuit gs outs wires = bit_pick outs (bit_run gs wires)
-
-pub circuit_planes : (lanes : ℕ) (gs : List Gate) (outs : List ℕ) (wires : List (List ℕ)) → ArePlanes lanes wires
-    → ArePlanes lanes (circuit lanes gs outs wires)
-unfolding circuit
-circuit_planes lanes gs outs wires p = pick_planes lanes outs (run lanes gs wires) (run_planes lanes gs wires p)
 
 pub circuit_bits : (lanes : ℕ) (gs : List Gate) (outs : List ℕ) (wires : List (List ℕ)) (i j : ℕ)
     → ArePlanes lanes wires → i < lanes
@@ -177,19 +158,15 @@ abbrev pub AreBits : List ℕ → Type 0
 AreBits [] = Unit {0}
 AreBits (b ∷ bits) = (b < 2) × AreBits bits
 
-pub both : (a b : Bool) → (a && b) ≡ true → (a ≡ true) × (b ≡ true)
-both true b e = (refl, e)
-both false b e = absurd (cc)
-
 pub agreed : (n : ℕ) (f g : List ℕ → ℕ) → agree n f g ≡ true → (v : List ℕ) → length v ≡ n → AreBits v → f v ≡ g v
 unfolding agree
 agreed zero f g e [] len are = eqb-true (f []) (g []) e
 agreed zero f g e (b ∷ v) len are = absurd (omega arith)
 agreed (suc n) f g e [] len are = absurd (omega arith)
 agreed (suc n) f g e (zero ∷ v) len are =
-    agreed n (λ v. f (0 ∷ v)) (λ v. g (0 ∷ v)) (both _ _ e).0 v (omega arith) are.1
+    agreed n (λ v. f (0 ∷ v)) (λ v. g (0 ∷ v)) (and_parts _ _ e).0 v (omega arith) are.1
 agreed (suc n) f g e (suc zero ∷ v) len are =
-    agreed n (λ v. f (1 ∷ v)) (λ v. g (1 ∷ v)) (both _ _ e).1 v (omega arith) are.1
+    agreed n (λ v. f (1 ∷ v)) (λ v. g (1 ∷ v)) (and_parts _ _ e).1 v (omega arith) are.1
 agreed (suc n) f g e (suc (suc b) ∷ v) len are = absurd (omega (arith, are.0))
 
 pub are_bits : (planes : List (List ℕ)) (i j : ℕ) → AreBits (bits_in planes i j)
@@ -261,18 +238,6 @@ unfoldable pub xor_each : List (List ℕ) → List (List ℕ) → List (List ℕ
 xor_each [] ys = []
 xor_each (x ∷ xs) [] = []
 xor_each (x ∷ xs) (y ∷ ys) = zip2 bit_xor x y ∷ xor_each xs ys
-
-pub xor_planes : (lanes : ℕ) (xs ys : List (List ℕ)) → ArePlanes lanes xs → ArePlanes lanes ys
-    → ArePlanes lanes (xor_each xs ys)
-unfolding xor_each
-xor_planes lanes [] ys a b = tt
-xor_planes lanes (x ∷ xs) [] a b = tt
-xor_planes lanes (x ∷ xs) (y ∷ ys) a b = (length-zip2 bit_xor x y (a.0 ∙ sym b.0) ∙ a.0, xor_planes lanes xs ys a.1 b.1)
-
-combined_none : (basis : List ℕ) → combined basis [] ≡ 0
-unfolding combined
-combined_none [] = refl
-combined_none (e ∷ basis) = refl
 
 pub xor_octets : (lanes : ℕ) (basis : List ℕ) (xs ys : List (List ℕ)) (i j : ℕ) → length xs ≡ length ys
     → ArePlanes lanes xs → ArePlanes lanes ys → i < lanes

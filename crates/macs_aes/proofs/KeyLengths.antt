@@ -1,15 +1,6 @@
 -- What the length of a key says: how many words it has.
 use Rattle.std.proofs.Common.{◌≡◌, ℕ, ◌≤◌, ◌⊎◌, List, length, arith, inl, inr}
 use Rattle.macs_aes.specs.KeyExpansion.{words_in_key}
-use Rattle.macs_aes.specs.Keys.{HasItsLength, octets_of_key}
-use Rattle.macs_aes.specs.declared.keys.Key.{Key}
-use Rattle.macs_aes.specs.declared.keys.Key.TheVariants.{Short, Long}
-
--- a key has 16 octets or 32
-pub either_length : (key : Key) → HasItsLength key
-    → (length (octets_of_key key) ≡ 16) ⊎ (length (octets_of_key key) ≡ 32)
-either_length (Short octets) size = inl size
-either_length (Long octets) size = inr size
 
 -- a key has some words
 pub words_in_key-some : (key : List ℕ) → (length key ≡ 16) ⊎ (length key ≡ 32) → 1 ≤ words_in_key key

@@ -1,6 +1,5 @@
 pub mod RoundConstants
 pub mod KeyLengths
-pub mod Octets
 pub mod Words
 pub mod InversePower
 pub mod Circuit

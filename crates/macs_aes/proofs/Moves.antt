@@ -6,7 +6,7 @@ use Rattle.std.specs.Simd.Lanes.{zip2}
 use Rattle.std.specs.Int.{bit_at}
 use Rattle.std.specs.List.{range_with_len}
 use Rattle.std.specs.Prelude.{◌&&◌, nat_eq}
-use Rattle.std.proofs.lemmas.Bool.{cases_lt, eqb-true}
+use Rattle.std.proofs.lemmas.Bool.{and_parts, cases_lt, eqb-true}
 use Rattle.std.proofs.lemmas.Nat.{div-add-mod', pow_pos, shr-shr, xor_comm}
 use Rattle.std.proofs.lemmas.Nat.Bits.{bit_at-lt, bit_at-zero, bit_at_above, bit_at_cat_high, bit_at_cat_low}
 use Rattle.std.proofs.lemmas.List.FromFn.{get_or-map-range_with_len}
@@ -15,7 +15,7 @@ use Rattle.std.proofs.lemmas.Simd.{get_or-replicate, get_or-zip2, length-zip2}
 use native.Mathlib.Nat.{add_comm}
 use lib.Bits.{xor_assoc, xor_self, xor_zero_l, xor_zero_r}
 use Rattle.macs_aes.specs.Blocks.{ArePlanes, bit_in, zeros}
-use Rattle.macs_aes.proofs.Circuit.{bit_in-and, bit_in-xor, both, lanes_of}
+use Rattle.macs_aes.proofs.Circuit.{bit_in-and, bit_in-xor, lanes_of}
 
 -- a bit of one of several vectors, by its lane's place
 pub data Place : Type 0 where
@@ -183,7 +183,7 @@ is_same (At n j) (At m k) = nat_eq n m && nat_eq j k
 
 is_same-true : (p q : Place) → is_same p q ≡ true → p ≡ q
 unfolding is_same
-is_same-true (At n j) (At m k) e = ap₂ (λ (a b : ℕ). At a b) (eqb-true n m (both _ _ e).0) (eqb-true j k (both _ _ e).1)
+is_same-true (At n j) (At m k) e = ap₂ (λ (a b : ℕ). At a b) (eqb-true n m (and_parts _ _ e).0) (eqb-true j k (and_parts _ _ e).1)
 
 -- one more place, or one less where it is among them
 unfoldable pub toggled : Place → List Place → List Place

@@ -85,7 +85,7 @@ times_power-xor zero u v = refl
 times_power-xor (suc i) u v = ap times_x (times_power-xor i u v) ∙ times_x-xor (times_power i u) (times_power i v)
 
 -- a power of x, and one more x
-times_power-shift : (i v : ℕ) → times_power i (times_x v) ≡ times_x (times_power i v)
+pub times_power-shift : (i v : ℕ) → times_power i (times_x v) ≡ times_x (times_power i v)
 unfolding times_power
 times_power-shift zero v = refl
 times_power-shift (suc i) v = ap times_x (times_power-shift i v)
@@ -129,7 +129,7 @@ unfoldable pub one : ℕ
 one = 2 ^ 127
 
 -- a shift to the left is undone by x
-times_x-double : (w : ℕ) → times_x (w * 2) ≡ w
+pub times_x-double : (w : ℕ) → times_x (w * 2) ≡ w
 times_x-double w =
     let half : w * 2 / 2 ≡ w = omega arith in
     let none : w * 2 % 2 ≡ 0 = omega arith in

@@ -5,9 +5,9 @@ use Rattle.std.specs.Int.{w128, from_be_bytes}
 use Rattle.std.specs.List.{slice_range}
 use Rattle.std.proofs.lemmas.Bool.{cases_lt}
 use Rattle.std.proofs.lemmas.Grind.{same_number_lists}
-use Rattle.std.proofs.lemmas.List.{append_assoc, drop-append-le, drop-drop, drop_at, get_or-append_right, get_or-drop}
+use Rattle.std.proofs.lemmas.List.{drop-append-le, drop-drop, drop_at, get_or-append_right, get_or-drop}
 use Rattle.std.proofs.lemmas.List.{get_or-replicate, get_or-take, get_or_append_left, get_or_past, length-append}
-use Rattle.std.proofs.lemmas.List.{length-drop, length-replicate, length-take-le, take-append-le, take_all, take_more}
+use Rattle.std.proofs.lemmas.List.{length-drop, length-replicate, length-take-le, take-append-le, take_more}
 use Rattle.std.proofs.lemmas.List.FromFn.{get_or-map-range_with_len, length-map-range_with_len}
 use Rattle.std.proofs.lemmas.List.Sums.{fold-append}
 use Rattle.macs_gf.specs.Ghash.{absorb, block_at, blocks_of, ghash_from, padded_string}
@@ -19,16 +19,6 @@ pub length-padded : (octets : List ℕ) → length (padded_string octets) ≡ 16
 length-padded octets =
     let zeros : ℕ = (16 - length octets % 16) % 16 in
     omega (arith, length-append octets (replicate zeros 0), length-replicate {A = ℕ} zeros 0)
-
--- after whole blocks a string is padded as by itself
-pub padded-append : (front octets : List ℕ) → length front % 16 ≡ 0
-    → padded_string (front ++ octets) ≡ front ++ padded_string octets
-padded-append front octets whole =
-    let zeros : ℕ → ℕ = λ (n : ℕ). (16 - n % 16) % 16 in
-    let size : length (front ++ octets) ≡ length front + length octets = length-append front octets in
-    let same : zeros (length (front ++ octets)) ≡ zeros (length octets) = omega arith in
-    ap (λ (n : ℕ). front ++ octets ++ replicate n 0) same
-    ∙ append_assoc front octets (replicate (zeros (length octets)) 0)
 
 -- an octet past the end reads as the zero that pads
 pub get_or-padded : (octets : List ℕ) (k : ℕ) → get_or (padded_string octets) k 0 ≡ get_or octets k 0
@@ -129,15 +119,6 @@ blocks_of-append front octets whole =
           ∙ sym (get_or-append_right (blocks_of front) (blocks_of octets) n k 0 first late
           ∙ get_or-blocks_of octets (k - n) (omega arith))
     ]))
-
--- sixteen octets are one block
-pub blocks_of-one : (block : List ℕ) → length block ≡ 16 → blocks_of block ≡ from_be_bytes w128 block ∷ []
-blocks_of-one block size =
-    let one : ℕ = from_be_bytes w128 block in
-    let first : block_at block 0 ≡ one = ap (from_be_bytes w128) (take_all 16 block (omega arith)) in
-    same_number_lists (blocks_of block) (one ∷ []) (omega (arith, length-blocks_of block)) (λ k below.
-    let zero_only : k ≡ 0 = omega (arith, below, length-blocks_of block) in
-    rw zero_only (get_or-blocks_of block 0 (omega arith) ∙ first))
 
 -- ---- GHASH
 

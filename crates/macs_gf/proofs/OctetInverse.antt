@@ -1,6 +1,6 @@
 -- Each octet but 0 has one inverse, which is its power 254.
 use Rattle.std.proofs.Common.{◌≡◌, ℕ, zero, suc, ◌+◌, ◌-◌, ◌^◌, ◌<◌, ◌≤◌, ◌↔◌, Bool, true, eqb, map, get_or, find}
-use Rattle.std.proofs.Common.{replicate, unwrap_or, refl, sym, ap, ◌∙◌, arith, lit<, inl, inr}
+use Rattle.std.proofs.Common.{replicate, unwrap_or, refl, sym, ap, ◌∙◌, arith, inl, inr}
 use Rattle.std.specs.List.{range_with_len}
 use Rattle.std.proofs.lemmas.Bool.{cases_Bool, cases_eq, eq-eqb, eqb-true, false≢true}
 use Rattle.std.proofs.lemmas.List.{get_or-replicate}
@@ -87,11 +87,6 @@ unfolding power_254 ones_power squared octet_product product_below remainder
 power_254_zero = refl
 
 -- ---- the laws
-
--- the inverse is an octet
-pub inverse-lt : (a : ℕ) → a < 2 ^ 8 → inverse a < 2 ^ 8
-inverse-lt zero h = rw inverse_zero (lit< tt)
-inverse-lt (suc k) h = (inverse-of_power (suc k) (omega arith) h).1
 
 -- the inverse is the one number that is an inverse
 pub inverse-is : (a b : ℕ) → a < 2 ^ 8 → IsInverse a b ↔ (b ≡ inverse a)

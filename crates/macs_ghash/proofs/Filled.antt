@@ -1,14 +1,12 @@
 -- Tables of four bits, from the octets of multiples by powers of x.
 use Rattle.std.proofs.Common.{◌≡◌, ℕ, zero, suc, ◌+◌, ◌-◌, ◌*◌, ◌/◌, ◌%◌, ◌^◌, ◌<◌, ◌≤◌, ◌∙◌, List, [], map, get_or}
-use Rattle.std.proofs.Common.{get_or-take, length, length-take-le, take, replicate, set, inl, inr, bit_or, bit_xor}
-use Rattle.std.proofs.Common.{cond, ap, ap₂, sym, subst, refl, arith, w8, T, ltb, ◌||◌}
+use Rattle.std.proofs.Common.{get_or-take, length, length-take-le, take, replicate, bit_or, bit_xor, cond, ap, ap₂, sym}
+use Rattle.std.proofs.Common.{subst, refl, arith, w8, T, ltb, ◌||◌}
 use Rattle.std.specs.Int.{bit_at}
 use Rattle.std.specs.List.{range_with_len}
 use Rattle.std.specs.Simd.Lanes.{Each1, digits_l, number_l, zip2}
-use Rattle.std.proofs.lemmas.Bool.{cases_lt}
-use Rattle.std.proofs.lemmas.List.{get_or-set_other, get_or-set_same, length-set}
 use Rattle.std.proofs.lemmas.List.FromFn.{get_or-map-range_with_len}
-use Rattle.std.proofs.lemmas.Nat.{and_mask, pow_pos, xor_mod, xor_shr}
+use Rattle.std.proofs.lemmas.Nat.{pow_pos, xor_mod, xor_shr}
 use Rattle.std.proofs.lemmas.Nat.Bits.{bit_at-lt}
 use Rattle.std.proofs.lemmas.Simd.{Each1-from_get_or, SwzOk, SwzOk-from_Each1, get_or-replicate, get_or-swz_l}
 use Rattle.std.proofs.lemmas.Simd.{get_or-zip2, get_or_narrower, length-replicate, length-zip2, swz_l}
@@ -220,58 +218,3 @@ pub powers_on : (xs second third fourth : List ℕ) (l : ℕ) → get_or second 
     × ((get_or third l 0 ≡ times_power 2 (get_or xs l 0)) × (get_or fourth l 0 ≡ times_power 3 (get_or xs l 0))))
 unfolding times_power
 powers_on xs second third fourth l e f g = (refl, (e, (f ∙ ap times_x e, g ∙ ap times_x (f ∙ ap times_x e))))
-
--- two words more
-pub two_words : (words : List ℕ) (n g a b : ℕ) → length words ≡ 2 * n → g < n
-    → (P : ℕ → ℕ → Type 0) (Q : ℕ → ℕ → Type 0)
-    → ((k : ℕ) → k < g → P k (get_or words (2 * k) 0)) → ((k : ℕ) → k < g → Q k (get_or words (2 * k + 1) 0))
-    → P g a → Q g b
-    → ((k : ℕ) → k < g + 1 → P k (get_or (set (set words (2 * g) a) (2 * g + 1) b) (2 * k) 0))
-    × ((k : ℕ) → k < g + 1 → Q k (get_or (set (set words (2 * g) a) (2 * g + 1) b) (2 * k + 1) 0))
-two_words words n g a b len h P Q ps qs p q =
-    let once : List ℕ = set words (2 * g) a in
-    let size : length once ≡ 2 * n = length-set words (2 * g) a ∙ len in (
-      λ k l. elim (cases_lt k g) [
-        | inl lt ↦ rw (
-          get_or-set_other once (2 * g + 1) (2 * k) b 0 (omega arith),
-          get_or-set_other words (2 * g) (2 * k) a 0 (omega arith),
-        ) (ps k lt)
-        | inr ge ↦
-            let same : k ≡ g = omega arith in
-            rw same (rw (
-              get_or-set_other once (2 * g + 1) (2 * g) b 0 (omega arith),
-              get_or-set_same words (2 * g) a 0 (omega arith),
-            ) p)
-      ],
-      λ k l. elim (cases_lt k g) [
-        | inl lt ↦ rw (
-          get_or-set_other once (2 * g + 1) (2 * k + 1) b 0 (omega arith),
-          get_or-set_other words (2 * g) (2 * k + 1) a 0 (omega arith),
-        ) (qs k lt)
-        | inr ge ↦
-            let same : k ≡ g = omega arith in
-            rw same (rw (get_or-set_same once (2 * g + 1) b 0 (omega arith)) q)
-      ],
-    )
-
--- each word is below a bound
-pub set_below : (words : List ℕ) (i v bound : ℕ) → i < length words → v < bound → ((m : ℕ) → get_or words m 0 < bound)
-    → (m : ℕ) → get_or (set words i v) m 0 < bound
-set_below words i v bound within small held m = elim (cases_lt m i) [
-  | inl lt ↦ rw (get_or-set_other words i m v 0 (omega arith)) (held m)
-  | inr ge ↦ elim (cases_lt i m) [
-    | inl gt ↦ rw (get_or-set_other words i m v 0 (omega arith)) (held m)
-    | inr le ↦
-        let same : m ≡ i = omega arith in
-        rw same (rw (get_or-set_same words i v 0 within) small)
-  ]
-]
-
-pub zeros_at : (n m : ℕ) → get_or {A = ℕ} (replicate n 0) m 0 ≡ 0
-zeros_at zero m = refl
-zeros_at (suc n) zero = refl
-zeros_at (suc n) (suc m) = zeros_at n m
-
--- one number, and zeros after it
-pub first_alone : (n x g : ℕ) → 0 < g → get_or (set (replicate n 0) 0 x) g 0 ≡ 0
-first_alone n x g some = get_or-set_other (replicate n 0) 0 g x 0 (omega arith) ∙ zeros_at n g

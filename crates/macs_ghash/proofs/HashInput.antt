@@ -73,17 +73,6 @@ input-last a c i behind below =
     ∙ block_at-append_right (padded_string c) rest (filled c) (i - filled a) (length-padded c) (omega arith)
     ∙ ap (block_at rest) none ∙ ap (from_be_bytes w128) (take_all 16 rest (omega (arith, size)))
 
--- one block more among n
-pub block_more : (old new f : ℕ → ℕ) (n k : ℕ) → k < n → ((j : ℕ) → j < k → old j ≡ f j) → new k ≡ f k
-    → ((l : ℕ) → l < n → l ≢ k → new l ≡ old l)
-    → (j : ℕ) → j < k + 1 → new j ≡ f j
-block_more old new f n k below held is others j h = elim (cases_lt j k) [
-  | inl lt ↦ others j (omega arith) (λ e. absurd (omega (arith, e))) ∙ held j lt
-  | inr ge ↦
-      let same : j ≡ k = omega arith in
-      rw same is
-]
-
 -- one block more after the zero blocks
 pub block_more_behind : (old new f : ℕ → ℕ) (m n k : ℕ) → n + k < m → ((j : ℕ) → j < k → old (n + j) ≡ f j)
     → new (n + k) ≡ f k

@@ -45,14 +45,6 @@ pub raised_half : (n : ℕ) (x : List ℕ) (m : ℕ) → length x ≡ n → m < 
     → get_or (zip2 (λ (a b : ℕ). a * 2 ^ b % 256) x (replicate n 4)) m 0 ≡ get_or x m 0 % 16 * 16
 raised_half n x m len h = lane_with n (λ (a b : ℕ). a * 2 ^ b % 256) x 4 m len h ∙ raised_octet (get_or x m 0)
 
-pub sum_at : (n : ℕ) (x y : List ℕ) (m : ℕ) → length x ≡ n → length y ≡ n → m < n
-    → get_or (zip2 bit_xor x y) m 0 ≡ bit_xor (get_or x m 0) (get_or y m 0)
-sum_at n x y m lx ly h = get_or-zip2 bit_xor x y m 0 0 0 (omega arith) (omega arith)
-
-pub either_at : (n : ℕ) (x y : List ℕ) (m : ℕ) → length x ≡ n → length y ≡ n → m < n
-    → get_or (zip2 bit_or x y) m 0 ≡ bit_or (get_or x m 0) (get_or y m 0)
-either_at n x y m lx ly h = get_or-zip2 bit_or x y m 0 0 0 (omega arith) (omega arith)
-
 -- ---- shuffles
 
 pub found_fit : (sixteens octets : ℕ) (at : List ℕ) → octets ≡ sixteens * 16 → length at ≡ octets

@@ -1,30 +1,18 @@
 -- x^128 times a block, by shifts: x^128 = 1 + x + x^2 + x^7.
 use Rattle.std.proofs.Common.{◌≡◌, ℕ, zero, suc, ◌+◌, ◌*◌, ◌/◌, ◌%◌, ◌^◌, ◌<◌, ◌∙◌, bit_xor, ap, ap₂, sym, refl, arith}
-use native.Mathlib.Nat.{pow-suc, mul_assoc, zero-mul, mul-one}
-use lib.Bits.{xor_assoc, xor_zero_r, xor_shifted}
+use native.Mathlib.Nat.{pow-suc, mul_assoc, mul-one}
+use lib.Bits.{xor_assoc, xor_shifted}
 use Rattle.std.proofs.Math.Nat.{add_comm, mod-add-div'}
 use Rattle.std.proofs.lemmas.Nat.{pow_pos, xor_lt, xor_shr}
 use Rattle.macs_gf.specs.Gf128.{block_product, times_power, times_x}
 use Rattle.macs_gf.proofs.Xor.{xor_middle, xor_shl}
-use Rattle.macs_gf.proofs.BlockField.{IsLinear, linear-power, linear_is, one, times_power-xor, times_x-xor}
-
--- a shift to the left is undone by x
-pub times_x-double : (w : ℕ) → times_x (w * 2) ≡ w
-times_x-double w =
-    let half : w * 2 / 2 ≡ w = omega arith in
-    let none : w * 2 % 2 ≡ 0 = omega arith in
-    rw (half, none, zero-mul) (xor_zero_r w)
+use Rattle.macs_gf.proofs.BlockField.{IsLinear, linear-power, linear_is, one, times_power-shift, times_power-xor}
+use Rattle.macs_gf.proofs.BlockField.{times_x-double, times_x-xor}
 
 -- one more power of x
 power-suc : (n v : ℕ) → times_power (suc n) v ≡ times_x (times_power n v)
 unfolding times_power
 power-suc n v = refl
-
--- x inside a power of x
-pub power-inside : (n v : ℕ) → times_power n (times_x v) ≡ times_x (times_power n v)
-unfolding times_power
-power-inside zero v = refl
-power-inside (suc n) v = ap times_x (power-inside n v)
 
 -- a power of a power
 pub power-add : (m n v : ℕ) → times_power (m + n) v ≡ times_power m (times_power n v)
@@ -42,7 +30,7 @@ unfolding times_power
 power-exact zero a = mul-one a
 power-exact (suc k) a =
     let e : a * 2 ^ suc k ≡ a * 2 ^ k * 2 = rw pow-suc (sym (mul_assoc a (2 ^ k) 2)) in
-    sym (power-inside k (a * 2 ^ suc k)) ∙ ap (λ (y : ℕ). times_power k (times_x y)) e
+    sym (times_power-shift k (a * 2 ^ suc k)) ∙ ap (λ (y : ℕ). times_power k (times_x y)) e
     ∙ ap (times_power k) (times_x-double (a * 2 ^ k)) ∙ power-exact k a
 
 -- a number in its parts above and below bit k

@@ -1,7 +1,7 @@
 -- Turns: the sum of the products of several blocks with the powers of the subkey takes them in one after another.
-use Rattle.std.proofs.Common.{◌≡◌, ◌≢◌, ℕ, zero, suc, ◌+◌, ◌-◌, ◌*◌, ◌/◌, ◌%◌, ◌^◌, ◌<◌, ◌≤◌, ◌∙◌, List, [], ◌∷◌}
-use Rattle.std.proofs.Common.{get_or, length, take, bit_xor, ap, ap₂, sym, refl, arith}
-use Rattle.std.proofs.Math.Nat.{div-add-mod, mod-lt, mul-div_cancel_left, mul-le-mul_left, mul-suc}
+use Rattle.std.proofs.Common.{◌≡◌, ◌≢◌, ℕ, zero, suc, ◌+◌, ◌-◌, ◌*◌, ◌^◌, ◌<◌, ◌≤◌, ◌∙◌, List, [], ◌∷◌, get_or, length}
+use Rattle.std.proofs.Common.{take, bit_xor, ap, ap₂, sym, refl, arith}
+use Rattle.std.proofs.Math.Nat.{mul-le-mul_left, mul-suc}
 use lib.Bits.{xor_self, xor_zero_l, xor_zero_r}
 use Rattle.macs_gf.specs.Gf128.{block_product}
 use Rattle.macs_gf.specs.Ghash.{absorb, ghash_from, subkey_power}
@@ -134,23 +134,6 @@ later_stride h x c bs at zero k some le is first others = absurd (omega arith)
 later_stride h x c bs at (suc n) k some le is first others = after_state h x c bs at n k le is first others
 
 -- ---- how many blocks strides take
-
-pub first_some : (count n : ℕ) → 0 < n → (count - 1) % n + 1 ≤ n
-first_some count n some =
-    let r : ℕ = (count - 1) % n in
-    let few : r < n = mod-lt (count - 1) some in
-    omega arith
-
-pub first_whole : (count n : ℕ) → 0 < n → 0 < count
-    → (count - 1) % n + 1 + n * ((count - ((count - 1) % n + 1)) / n) ≡ count
-first_whole count n some any =
-    let q : ℕ = (count - 1) / n in
-    let r : ℕ = (count - 1) % n in
-    let whole : n * q + r ≡ count - 1 = div-add-mod (count - 1) n in
-    let p : ℕ = n * q in
-    let rest : count - (r + 1) ≡ p = omega arith in
-    let strides : (count - (r + 1)) / n ≡ q = ap (λ (v : ℕ). v / n) rest ∙ mul-div_cancel_left q some in
-    ap (λ (v : ℕ). r + 1 + n * v) strides ∙ omega arith
 
 -- a stride is within all that are taken
 pub stride_fits : (first n t strides count taken : ℕ) → t < strides → first + n * strides ≡ count

@@ -1,8 +1,7 @@
 -- Blocks of a string, and their octets.
-use Rattle.std.proofs.Common.{◌≡◌, ◌≢◌, ℕ, zero, suc, ◌+◌, ◌-◌, ◌*◌, ◌^◌, ◌<◌, ◌≤◌, ◌∙◌, List, ap₂, bit_xor, refl}
-use Rattle.std.proofs.Common.{replicate, drop, get_or, get_or-take, length, length-take-le, take, ap, arith, subst, sym}
-use Rattle.std.proofs.Common.{inl, inr}
-use Rattle.std.specs.Int.{from_be_bytes, to_be_bytes, w128}
+use Rattle.std.proofs.Common.{◌≡◌, ℕ, ◌+◌, ◌-◌, ◌*◌, ◌^◌, ◌<◌, ◌≤◌, ◌∙◌, List, ap₂, bit_xor, refl, replicate, drop}
+use Rattle.std.proofs.Common.{get_or, get_or-take, length, length-take-le, take, ap, arith, subst, sym, inl, inr}
+use Rattle.std.specs.Int.{from_be_bytes, w128}
 use Rattle.std.proofs.lemmas.List.{get_or-drop, get_or_past, length-drop, length-replicate}
 use Rattle.std.proofs.lemmas.Bool.{cases_lt}
 use Rattle.std.proofs.lemmas.List.Elements.{All-get_or}

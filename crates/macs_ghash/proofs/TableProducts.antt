@@ -1,6 +1,6 @@
 -- Products by tables of four bits: what the rows add is the sum of products.
 use Rattle.std.proofs.Common.{set, subst, inl, inr, length, ◌≡◌, ℕ, zero, suc, ◌+◌, ◌-◌, ◌*◌, ◌/◌, ◌%◌, ◌^◌, ◌<◌, ◌≤◌}
-use Rattle.std.proofs.Common.{◌∙◌, List, [], ◌∷◌, get_or, bit_xor, ap, ap₂, sym, refl, arith}
+use Rattle.std.proofs.Common.{◌∙◌, List, [], get_or, bit_xor, ap, ap₂, sym, arith}
 use Rattle.std.specs.Int.{bit_at}
 use Rattle.std.proofs.Math.Nat.{add_comm}
 use Rattle.std.proofs.lemmas.Bool.{cases_lt}
@@ -230,12 +230,6 @@ part_more P d xs i v within held is k h = elim (cases_lt k i) [
       let same : k ≡ i = omega arith in
       rw same (rw (get_or-set_same xs i v d within) is)
 ]
-
--- an element that is there, whatever stands for one that is not
-pub whatever_default : {A : Type 0} (xs : List A) (i : ℕ) (d e : A) → i < length xs → get_or xs i d ≡ get_or xs i e
-whatever_default [] i d e h = absurd (omega arith)
-whatever_default (x ∷ xs) zero d e h = refl
-whatever_default (x ∷ xs) (suc i) d e h = whatever_default xs i d e (omega arith)
 
 -- tables of the same powers
 pub of_same_powers : (sixteens parts : ℕ) (f g : ℕ → ℕ) (tables : List (List (List ℕ)))

@@ -3,5 +3,8 @@
 //! and a sink report what they have.
 #![tactic(auto)]
 
+mod in_file;
 #[cfg(test)]
 mod tests;
+
+pub use in_file::{new_disk, page_of_memory_files, run_in_file};

@@ -25,7 +25,8 @@ use Rattle.macs_endpoint.specs.declared.fault.SubmitFault.TheVariants as submit
 use Rattle.macs_endpoint.specs.declared.progress.Step.{Step as Progress}
 use Rattle.macs_endpoint.specs.declared.progress.Step.TheVariants.{Done, Idle, Reserved, Worked}
 use Rattle.macs_endpoint.specs.declared.queue.Waiting.{Waiting}
-use Rattle.macs_headline.proofs.HandedIn.{first_on, none_some}
+use Rattle.macs_headline.proofs.HandedIn.{first_on}
+use Rattle.macs_headline.proofs.Ledger.{none_some}
 use Rattle.macs_theorem.specs.Observer.{ExpectsCall, IsNew, Observer, after_command, after_result, begin, begun_in}
 use Rattle.macs_theorem.specs.Observer.{fail}
 use Rattle.macs_theorem.proofs.Matches.{BeginsFirst, Follows, Matches, after-command, after-fault, is-new, may-begin}

@@ -2,6 +2,7 @@
 use Rattle.std.proofs.Common.{◌≡◌, inl, inr, ℕ, Bool, true, false, is_ok, List, [], ◌∷◌, ◌++◌, map, Option, Some, None}
 use Rattle.std.proofs.Common.{Result, Ok, Err, refl, sym, ◌∙◌, ap, subst}
 use Rattle.std.specs.Prelude.{Contains}
+use Rattle.std.proofs.lemmas.List.Elements.{Contains-append_cases}
 use Rattle.macs_config.specs.Config.{this_edition}
 use Rattle.macs_config.specs.Identity.{Identity}
 use Rattle.macs_disk.specs.Disk.{Disk, IsHonest, MayLeave, now}
@@ -46,7 +47,7 @@ use Rattle.macs_headline.proofs.Older.{larger_past}
 use Rattle.macs_headline.proofs.Effects.{core}
 use Rattle.macs_headline.proofs.Histories.{IsSoundPast, sound-history}
 use Rattle.macs_headline.proofs.Sound.{IsSound as IsSoundCore}
-use Rattle.macs_headline.proofs.Lists.{contains-cases, contains-either, contains-first, contains-later, contains-none}
+use Rattle.macs_headline.proofs.Lists.{contains-cases, contains-first, contains-later, contains-none}
 use Rattle.macs_theorem.specs.Events.{Answer, Answers, Calls, Closes, Ends, EndsIn, Event, Formats as Formatting}
 use Rattle.macs_theorem.specs.Events.{Happen, Happens, Holds, HoldsDisk, HoldsEndpoint, IsAnswered, Opens, Shows}
 use Rattle.macs_theorem.specs.Events.{disk_held}
@@ -572,7 +573,7 @@ module _ {D : Type 0} (disk_of : D → Disk) (sound : (it : D) → IsHonest (dis
   frames_spent s sound it has =
       let key_sent : Use → Option (List ℕ) × List ℕ = λ u. (None, u.key) in
       let key_given : Delivery → Option (List ℕ) × List ℕ = λ d. (Some d.sci, d.key) in
-      elim (contains-either (map key_sent s.logs.used) (map key_given s.logs.given) it has) [
+      elim (Contains-append_cases (map key_sent s.logs.used) (map key_given s.logs.given) it has) [
         | inl sent ↦
             let of = mapped key_sent s.logs.used it sent in
             subst (λ (it : Option (List ℕ) × List ℕ). is_spent_in s.config it ≡ true) (sym of.2)

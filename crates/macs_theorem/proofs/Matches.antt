@@ -4,6 +4,7 @@ use Rattle.std.proofs.Common.{subst, true, false}
 use Rattle.std.specs.Option.{option_or}
 use Rattle.std.specs.List.{AllByRecursion}
 use Rattle.std.specs.Prelude.{Contains}
+use Rattle.std.proofs.lemmas.List.Elements.{Contains-append_cases}
 use Rattle.macs_aes.specs.Keys.{octets_of_key}
 use Rattle.macs_config.specs.Config.{Config, Edition, is_spent, rx_fingerprint, tx_fingerprint}
 use Rattle.macs_config.specs.Identity.{Identity}
@@ -17,9 +18,8 @@ use Rattle.macs_endpoint.specs.Step.{next_after, numbers_after, state_after_comm
 use Rattle.macs_endpoint.specs.declared.queue.Waiting.{Waiting}
 use Rattle.macs_headline.specs.History.{Blank, Formatted, Past}
 use Rattle.macs_headline.proofs.Accepted.{accepted, rx-unspent, spent-pushed, tx-unspent}
-use Rattle.macs_headline.proofs.Lists.{contains-cases, contains-either, contains-none}
-use Rattle.macs_headline.proofs.HandedIn.{none_some}
-use Rattle.macs_headline.proofs.Ledger.{some_one}
+use Rattle.macs_headline.proofs.Lists.{contains-cases, contains-none}
+use Rattle.macs_headline.proofs.Ledger.{none_some, some_one}
 use Rattle.macs_theorem.specs.Shown.{settings_of}
 use Rattle.macs_theorem.specs.Observer.{IsNew, Observer, after_command, begin, begun_in, fail, install_of, new_observer}
 use Rattle.macs_theorem.specs.Observer.{settings_after, unrested}
@@ -156,7 +156,7 @@ spent-on : (edition : Edition) (identity : Identity) (c : Config) (command : Com
 spent-on edition identity c command new ok installed spent it has =
     let made = (accepted edition identity c command new ok).1 in
     subst (λ (c : Config). is_spent_in c it ≡ true) (sym made)
-    (elim (contains-either (install_of command) installed it has) [
+    (elim (Contains-append_cases (install_of command) installed it has) [
       | inl now ↦ now_spent c command it now
       | inr was ↦ still_spent c command it (spent it was)
     ])

@@ -6,6 +6,7 @@ use Rattle.std.proofs.lemmas.Bool.{cases_eq}
 use Rattle.std.specs.Prelude.{Contains, Result, filter, flat_map}
 use Rattle.std.specs.List.{AllByRecursion}
 use Rattle.std.specs.Option.{option_or}
+use Rattle.std.proofs.lemmas.List.Elements.{Contains-append_left, Contains-append_right}
 use Rattle.macs_aes.specs.Keys.{octets_of_key}
 use Rattle.macs_config.specs.Identity.{Identity}
 use Rattle.macs_config.specs.declared.command.Command.{Command}
@@ -28,10 +29,9 @@ use Rattle.macs_endpoint.specs.declared.progress.Step.TheVariants.{Done, Idle, R
 use Rattle.macs_endpoint.specs.declared.queue.Waiting.{Waiting}
 use Rattle.macs_endpoint.specs.Value.{EndpointValue}
 use Rattle.macs_headline.specs.Numbers.{HasNoneTwice}
-use Rattle.macs_headline.proofs.HandedIn.{none_some}
-use Rattle.macs_headline.proofs.Ledger.{some_one}
-use Rattle.macs_headline.proofs.Lists.{all-on, contains-cases, contains-first, contains-front, contains-later}
-use Rattle.macs_headline.proofs.Lists.{contains-none, contains-rear, none-twice, pairs-none}
+use Rattle.macs_headline.proofs.Ledger.{none_some, some_one}
+use Rattle.macs_headline.proofs.Lists.{all-on, contains-cases, contains-first, contains-later}
+use Rattle.macs_headline.proofs.Lists.{contains-none, none-twice, pairs-none}
 use Rattle.macs_headline.proofs.Places.{put-that, put-this}
 use Rattle.macs_theorem.specs.Events.{Answer, Answers, Calls, Closes, Ends, EndsIn, Event, Formats, Happen, Happens}
 use Rattle.macs_theorem.specs.Events.{Holds, HoldsDisk, HoldsEndpoint, IsAnswered, Opens, Shows}
@@ -317,9 +317,9 @@ module _ (keys : List (List ℕ)) where
       → (AllThese (calls_in events) → AreKnown new → AreOnce new (calls_in events))
       → AreOnce o (record { call = call; reply = reply } ∷ calls_in events)
   once_on o call reply new events these leads rest =
-      leads (λ key among. these key (contains-front (installed_by call) (installed_in (calls_in events)) key among))
+      leads (λ key among. these key (Contains-append_left (installed_by call) (installed_in (calls_in events)) key among))
       (calls_in events)
-      (rest (λ key among. these key (contains-rear (installed_by call) (installed_in (calls_in events)) key among)))
+      (rest (λ key among. these key (Contains-append_right (installed_by call) (installed_in (calls_in events)) key among)))
 
   -- an event that is no call
   once_by : (o new : Observer) (calls : List Exchange) → Quiet o new → (AreKnown new → AreOnce new calls)

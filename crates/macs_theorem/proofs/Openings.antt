@@ -1,8 +1,7 @@
 -- What an opening finds, what a `format` answers, and what a call that is cut short leaves.
-use Rattle.std.proofs.Common.{◌≡◌, ◌&&◌, inl, inr, ℕ, Bool, true, false, cond, not, is_ok, List, [], ◌∷◌, Option, Some}
-use Rattle.std.proofs.Common.{None, Result, Ok, Err, refl, sym, ◌∙◌, ap, subst}
+use Rattle.std.proofs.Common.{◌≡◌, inl, inr, ℕ, true, false, is_ok, List, [], ◌∷◌, Option, Some, None, Result, Ok, Err}
+use Rattle.std.proofs.Common.{refl, sym, ◌∙◌, ap, subst}
 use Rattle.std.specs.Option.{option_map, option_or}
-use Rattle.macs_config.specs.Apply.{apply}
 use Rattle.macs_config.specs.Config.{Config, this_edition}
 use Rattle.macs_config.specs.Identity.{Identity}
 use Rattle.macs_config.specs.declared.command.Command.{Command}
@@ -14,14 +13,13 @@ use Rattle.macs_store.specs.Standing.{Ceilings, Standing, new_standing}
 use Rattle.macs_store.proofs.OneStanding.{one_standing}
 use Rattle.macs_endpoint.specs.Ceilings.{next_ceilings}
 use Rattle.macs_endpoint.specs.Restart.{Restart, Resumes, RxRises, TxRises, opened_state, state_during}
-use Rattle.macs_endpoint.specs.Restart.{state_taking_alone, state_taking_first}
-use Rattle.macs_endpoint.specs.State.{Advances, Call, Commands, Delivery, Protects, Receives, Refills, State, Submits}
-use Rattle.macs_endpoint.specs.State.{no_logs, state_with_under_way}
-use Rattle.macs_endpoint.specs.State.{Rests}
+use Rattle.macs_endpoint.specs.Restart.{state_taking_first}
+use Rattle.macs_endpoint.specs.State.{Advances, Call, Commands, Delivery, State, no_logs}
 use Rattle.macs_endpoint.specs.Step.{state_after_command}
 use Rattle.macs_endpoint.specs.declared.queue.Waiting.{Waiting}
 use Rattle.macs_headline.specs.History.{Blank, FitsPast, FormatLeads, Formatted, Leads, Past, Refuses, logs_of}
-use Rattle.macs_headline.proofs.HandedIn.{none_some}
+use Rattle.macs_headline.proofs.Ledger.{none_some, some_one}
+use Rattle.macs_headline.proofs.LifeEnds.{IsTaken, by-end}
 use Rattle.macs_headline.proofs.Lists.{contains-none}
 use Rattle.macs_headline.proofs.Histories.{fits-restart, found-new}
 use Rattle.macs_headline.proofs.Openings.{refused-for-disk-or-spent}
@@ -299,39 +297,28 @@ module _ (earlier : List Delivery) (s : State) (o : Observer) (follows : Follows
   abbrev m : Matches earlier s o
   m = follows.matches
 
-  -- where the endpoint runs and accepts a command, that may be under way
-  taking : (stopped accepts : Bool) (call : Call) (c : Command) → s.stopped ≡ stopped
-      → (s.stopped ≡ false → option_or o.begun (begun_in o.stopped call o.waiting) ≡ Some c)
-      → Matches earlier (cond (not stopped && accepts) (state_with_under_way s c) s) (begin call o)
-  taking true accepts call c is begins = may-begin earlier s o call m
-  taking false true call c is begins =
-      with-hand earlier s (begin call o) c (begins is) (may-begin earlier s o call m)
-  taking false false call c is begins = may-begin earlier s o call m
-
   in_front : s.stopped ≡ false → IsFirst o
   in_front running d begun = follows.begins d begun running
 
-  taking_alone : (waiting : List Waiting) (c : Command) → s.waiting ≡ waiting
-      → Matches earlier (state_taking_alone s c waiting) (begin (Commands c) o)
-  taking_alone [] c is = taking s.stopped (is_ok (apply s.edition s.identity s.config c)) (Commands c) c refl
-      (λ running. begins-alone o.stopped (m.stopped ∙ running) o.waiting o.begun (in_front running) c (m.waiting ∙ is))
-  taking_alone (one ∷ rest) c is = may-begin earlier s o (Commands c) m
-
-  taking_first : (under_way : Option Command) (waiting : List Waiting) → s.waiting ≡ waiting
-      → Matches earlier (state_taking_first s under_way waiting) (begin Advances o)
-  taking_first None [] is = may-begin earlier s o Advances m
-  taking_first None (one ∷ rest) is =
-      taking s.stopped (is_ok (apply s.edition s.identity s.config one.command)) Advances one.command refl
-      (λ running.
-      begins-first o.stopped (m.stopped ∙ running) o.waiting o.begun (in_front running) one rest (m.waiting ∙ is))
-  taking_first (Some c) waiting is = may-begin earlier s o Advances m
+  -- a command that is taken is the one that may begin
+  begins : (call : Call) (c : Command) → IsTaken s (Some call) c
+      → option_or o.begun (begun_in o.stopped call o.waiting) ≡ Some c
+  begins call c taken =
+      let stopped = m.stopped ∙ taken.running in
+      let front = in_front taken.running in
+      elim taken.how [
+        | inl own ↦ subst (λ (call : Call). option_or o.begun (begun_in o.stopped call o.waiting) ≡ Some c)
+            (some_one (Some (Commands c)) (Commands c) call refl (sym own.0))
+            (begins-alone o.stopped stopped o.waiting o.begun front c (m.waiting ∙ own.1))
+        | inr queued ↦
+            let there = queued.2 in
+            subst (λ (call : Call). option_or o.begun (begun_in o.stopped call o.waiting) ≡ Some c)
+            (some_one (Some Advances) Advances call refl (sym queued.0))
+            (begins-first o.stopped stopped o.waiting o.begun front there.0 there.1 (m.waiting ∙ there.2)
+            ∙ ap (λ (c : Command). Some c) there.3)
+      ]
 
   -- work may begin in it
   pub cuts-may-begin : (call : Call) → Matches earlier (state_during s call) (begin call o)
-  cuts-may-begin (Commands c) = taking_alone s.waiting c refl
-  cuts-may-begin Refills = may-begin earlier s o Refills m
-  cuts-may-begin Rests = may-begin earlier s o Rests m
-  cuts-may-begin (Submits c) = may-begin earlier s o (Submits c) m
-  cuts-may-begin Advances = taking_first s.under_way s.waiting refl
-  cuts-may-begin (Protects plain) = may-begin earlier s o (Protects plain) m
-  cuts-may-begin (Receives frame) = may-begin earlier s o (Receives frame) m
+  cuts-may-begin call = by-end (λ t. Matches earlier t (begin call o)) s (may-begin earlier s o call m) (Some call)
+      (λ c taken. with-hand earlier s (begin call o) c (begins call c taken) (may-begin earlier s o call m))

@@ -94,6 +94,14 @@ Hears disk_of old asked before after new =
     × Happens disk_of shown_by old event new)
     ⊎ (IsPassedOver old asked × ((events : List (Event Shown)) → before events → after events) × (new ≡ old))
 
+-- One event happened, and the program remembers it along with the events before; or nothing was done.
+abbrev pub HearsOrPassesOver : {D : Type 0} → (D → Disk) → Holds D → (before after : List (Event Shown) → Type 0)
+    → Holds D → Type 0
+HearsOrPassesOver disk_of old before after new =
+    ((event : Event Shown) × ((events : List (Event Shown)) → before events → after (events ++ event ∷ []))
+    × Happens disk_of shown_by old event new)
+    ⊎ (((events : List (Event Shown)) → before events → after events) × (new ≡ old))
+
 -- The events that the program remembers happened, starting with a new disk, and an observer expects them.
 abbrev pub HearsExpected : {D : Type 0} → (D → Disk) → D → (List (Event Shown) → Type 0) → Holds D → Type 0
 HearsExpected disk_of disk keeps new =

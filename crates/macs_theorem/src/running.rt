@@ -54,7 +54,11 @@ fn turn_power<D: PowerSupply, P: Program>(held: Held<D>, power: Power, program: 
     }
 }
 
-fn call<D: SectorDisk, P: Program>(held: Held<D>, request: Request, program: &mut P) -> Held<D>
+pub(crate) fn call<D: SectorDisk, P: Program>(
+    held: Held<D>,
+    request: Request,
+    program: &mut P,
+) -> Held<D>
     ensures { Hears D.disk (holds held) (asked.Call request)
         (P.keeps program.old) (P.keeps program.new) (holds result) }
 {
@@ -69,7 +73,7 @@ fn call<D: SectorDisk, P: Program>(held: Held<D>, request: Request, program: &mu
     }
 }
 
-fn show<D: SectorDisk, P: Program>(held: Held<D>, program: &mut P) -> Held<D>
+pub(crate) fn show<D: SectorDisk, P: Program>(held: Held<D>, program: &mut P) -> Held<D>
     ensures { Hears D.disk (holds held) asked.Show
         (P.keeps program.old) (P.keeps program.new) (holds result) }
 {

@@ -1,34 +1,10 @@
 use Rattle.std.proofs.Common.{[], ◌∷◌}
 use Rattle.macs_aes.specs.Columns.{with_bit}
-use Rattle.macs_aes.proofs.Moves.{moved, moved_from, moved_lanes}
+use Rattle.macs_aes.proofs.Moves.{moved, moved_from}
 use Rattle.macs_aes.proofs.CrossMoves.{fours0_move, fours1_move, fours2_move, fours3_move, fours4_move, fours5_move}
 use Rattle.macs_aes.proofs.CrossMoves.{fours6_move, fours7_move, fours0_from, fours1_from, fours2_from, fours3_from}
 use Rattle.macs_aes.proofs.CrossMoves.{fours4_from, fours5_from, fours6_from, fours7_from}
 use Rattle.macs_aes.proofs.columns.exchange_fours.Goals as goal
-
-pub returns-clause-lanes : goal.returns-clause-lanes
-unfolding moved fours0_move fours1_move fours2_move fours3_move fours4_move fours5_move fours6_move fours7_move
-returns-clause-lanes g c =
-    let x = c.args.x.now in
-    let xs = x.q0 ∷ x.q1 ∷ x.q2 ∷ x.q3 ∷ x.q4 ∷ x.q5 ∷ x.q6 ∷ x.q7 ∷ [] in (
-      moved_lanes g.row.N fours0_move xs c.requires,
-      (
-        moved_lanes g.row.N fours1_move xs c.requires,
-        (
-          moved_lanes g.row.N fours2_move xs c.requires,
-          (
-            moved_lanes g.row.N fours3_move xs c.requires,
-            (
-              moved_lanes g.row.N fours4_move xs c.requires,
-              (
-                moved_lanes g.row.N fours5_move xs c.requires,
-                (moved_lanes g.row.N fours6_move xs c.requires, (moved_lanes g.row.N fours7_move xs c.requires, tt)),
-              ),
-            ),
-          ),
-        ),
-      ),
-    )
 
 pub returns-clause-q0 : goal.returns-clause-q0
 unfolding moved fours0_move

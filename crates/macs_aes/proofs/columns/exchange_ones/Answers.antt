@@ -1,34 +1,10 @@
 use Rattle.std.proofs.Common.{[], ◌∷◌}
 use Rattle.macs_aes.specs.Columns.{with_bit}
-use Rattle.macs_aes.proofs.Moves.{moved, moved_from, moved_lanes}
+use Rattle.macs_aes.proofs.Moves.{moved, moved_from}
 use Rattle.macs_aes.proofs.CrossMoves.{ones0_move, ones1_move, ones2_move, ones3_move, ones4_move, ones5_move}
 use Rattle.macs_aes.proofs.CrossMoves.{ones6_move, ones7_move, ones0_from, ones1_from, ones2_from, ones3_from}
 use Rattle.macs_aes.proofs.CrossMoves.{ones4_from, ones5_from, ones6_from, ones7_from}
 use Rattle.macs_aes.proofs.columns.exchange_ones.Goals as goal
-
-pub returns-clause-lanes : goal.returns-clause-lanes
-unfolding moved ones0_move ones1_move ones2_move ones3_move ones4_move ones5_move ones6_move ones7_move
-returns-clause-lanes g c =
-    let x = c.args.x.now in
-    let xs = x.q0 ∷ x.q1 ∷ x.q2 ∷ x.q3 ∷ x.q4 ∷ x.q5 ∷ x.q6 ∷ x.q7 ∷ [] in (
-      moved_lanes g.row.N ones0_move xs c.requires,
-      (
-        moved_lanes g.row.N ones1_move xs c.requires,
-        (
-          moved_lanes g.row.N ones2_move xs c.requires,
-          (
-            moved_lanes g.row.N ones3_move xs c.requires,
-            (
-              moved_lanes g.row.N ones4_move xs c.requires,
-              (
-                moved_lanes g.row.N ones5_move xs c.requires,
-                (moved_lanes g.row.N ones6_move xs c.requires, (moved_lanes g.row.N ones7_move xs c.requires, tt)),
-              ),
-            ),
-          ),
-        ),
-      ),
-    )
 
 pub returns-clause-q0 : goal.returns-clause-q0
 unfolding moved ones0_move

@@ -1,34 +1,10 @@
 use Rattle.std.proofs.Common.{[], ◌∷◌}
 use Rattle.macs_aes.specs.Columns.{with_bit}
-use Rattle.macs_aes.proofs.Moves.{moved, moved_from, moved_lanes}
+use Rattle.macs_aes.proofs.Moves.{moved, moved_from}
 use Rattle.macs_aes.proofs.CrossMoves.{twos0_move, twos1_move, twos2_move, twos3_move, twos4_move, twos5_move}
 use Rattle.macs_aes.proofs.CrossMoves.{twos6_move, twos7_move, twos0_from, twos1_from, twos2_from, twos3_from}
 use Rattle.macs_aes.proofs.CrossMoves.{twos4_from, twos5_from, twos6_from, twos7_from}
 use Rattle.macs_aes.proofs.columns.exchange_twos.Goals as goal
-
-pub returns-clause-lanes : goal.returns-clause-lanes
-unfolding moved twos0_move twos1_move twos2_move twos3_move twos4_move twos5_move twos6_move twos7_move
-returns-clause-lanes g c =
-    let x = c.args.x.now in
-    let xs = x.q0 ∷ x.q1 ∷ x.q2 ∷ x.q3 ∷ x.q4 ∷ x.q5 ∷ x.q6 ∷ x.q7 ∷ [] in (
-      moved_lanes g.row.N twos0_move xs c.requires,
-      (
-        moved_lanes g.row.N twos1_move xs c.requires,
-        (
-          moved_lanes g.row.N twos2_move xs c.requires,
-          (
-            moved_lanes g.row.N twos3_move xs c.requires,
-            (
-              moved_lanes g.row.N twos4_move xs c.requires,
-              (
-                moved_lanes g.row.N twos5_move xs c.requires,
-                (moved_lanes g.row.N twos6_move xs c.requires, (moved_lanes g.row.N twos7_move xs c.requires, tt)),
-              ),
-            ),
-          ),
-        ),
-      ),
-    )
 
 pub returns-clause-q0 : goal.returns-clause-q0
 unfolding moved twos0_move

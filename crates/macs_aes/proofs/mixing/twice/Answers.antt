@@ -1,17 +1,10 @@
 use Rattle.std.proofs.Common.{◌∙◌, ap, refl, [], ◌∷◌}
 use Rattle.macs_gf.specs.Gf256.{octet_product}
 use Rattle.macs_aes.specs.Blocks.{octet_basis}
-use Rattle.macs_aes.proofs.Circuit.{circuit, circuit_is, circuit_planes, gate, octet_of, octet_was, pick, run}
+use Rattle.macs_aes.proofs.Circuit.{circuit, circuit_is, gate, octet_of, octet_was, pick, run}
 use Rattle.macs_aes.proofs.Gates.{twice_gates, twice_outputs}
 use Rattle.macs_aes.proofs.Tables.{twice_agrees, twice_of}
 use Rattle.macs_aes.proofs.mixing.twice.Goals as goal
-
-pub invariant_of-result : goal.invariant_of-result
-unfolding circuit gate pick run twice_gates twice_outputs
-invariant_of-result g c =
-    let x = c.x.inside in
-    circuit_planes g.row.N twice_gates twice_outputs (x.p0 ∷ x.p1 ∷ x.p2 ∷ x.p3 ∷ x.p4 ∷ x.p5 ∷ x.p6 ∷ x.p7 ∷ [])
-    c.x.invariant
 
 pub returns : goal.returns
 unfolding circuit gate pick run twice_gates twice_outputs twice_of

@@ -5,24 +5,6 @@ use Rattle.macs_aes.proofs.Circuit.{octet_of, octet_was}
 use Rattle.macs_aes.proofs.EachBlock.{below-lt, same_eight}
 use Rattle.macs_aes.proofs.rows.lift.Goals as goal
 
-pub invariant_of-result : goal.invariant_of-result
-invariant_of-result g c = (
-  c.lift_plane.ensures.lanes,
-  (
-    c.lift_plane-2.ensures.lanes,
-    (
-      c.lift_plane-3.ensures.lanes,
-      (
-        c.lift_plane-4.ensures.lanes,
-        (
-          c.lift_plane-5.ensures.lanes,
-          (c.lift_plane-6.ensures.lanes, (c.lift_plane-7.ensures.lanes, (c.lift_plane-8.ensures.lanes, tt))),
-        ),
-      ),
-    ),
-  ),
-)
-
 pub returns : goal.returns
 returns g c = λ i j h k.
     let x = c.x.inside in

@@ -1,12 +1,8 @@
 use Rattle.std.proofs.Common.{[], ◌∷◌}
 use Rattle.macs_aes.specs.Rows.{below}
-use Rattle.macs_aes.proofs.Moves.{moved, moved_from, moved_lanes}
+use Rattle.macs_aes.proofs.Moves.{moved, moved_from}
 use Rattle.macs_aes.proofs.RowMoves.{lift_plane_twice_from, lift_plane_twice_moves}
 use Rattle.macs_aes.proofs.rows.lift_plane_twice.Goals as goal
-
-pub returns-clause-lanes : goal.returns-clause-lanes
-unfolding moved lift_plane_twice_moves
-returns-clause-lanes g c = moved_lanes g.row.N lift_plane_twice_moves (c.args.x ∷ []) (c.requires, tt)
 
 pub returns-clause-bits : goal.returns-clause-bits
 unfolding moved lift_plane_twice_moves

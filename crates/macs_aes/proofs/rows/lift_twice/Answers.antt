@@ -5,27 +5,6 @@ use Rattle.macs_aes.proofs.Circuit.{octet_of, octet_was}
 use Rattle.macs_aes.proofs.EachBlock.{below-lt, same_eight}
 use Rattle.macs_aes.proofs.rows.lift_twice.Goals as goal
 
-pub invariant_of-result : goal.invariant_of-result
-invariant_of-result g c = (
-  c.lift_plane_twice.ensures.lanes,
-  (
-    c.lift_plane_twice-2.ensures.lanes,
-    (
-      c.lift_plane_twice-3.ensures.lanes,
-      (
-        c.lift_plane_twice-4.ensures.lanes,
-        (
-          c.lift_plane_twice-5.ensures.lanes,
-          (
-            c.lift_plane_twice-6.ensures.lanes,
-            (c.lift_plane_twice-7.ensures.lanes, (c.lift_plane_twice-8.ensures.lanes, tt)),
-          ),
-        ),
-      ),
-    ),
-  ),
-)
-
 pub returns : goal.returns
 returns g c = λ i j h k.
     let x = c.x.inside in

@@ -5,24 +5,6 @@ use Rattle.macs_aes.proofs.Circuit.{octet_of, octet_was}
 use Rattle.macs_aes.proofs.EachBlock.{shifted-lt, same_eight}
 use Rattle.macs_aes.proofs.rows.shift.Goals as goal
 
-pub invariant_of-result : goal.invariant_of-result
-invariant_of-result g c = (
-  c.shift_plane.ensures.lanes,
-  (
-    c.shift_plane-2.ensures.lanes,
-    (
-      c.shift_plane-3.ensures.lanes,
-      (
-        c.shift_plane-4.ensures.lanes,
-        (
-          c.shift_plane-5.ensures.lanes,
-          (c.shift_plane-6.ensures.lanes, (c.shift_plane-7.ensures.lanes, (c.shift_plane-8.ensures.lanes, tt))),
-        ),
-      ),
-    ),
-  ),
-)
-
 pub returns : goal.returns
 returns g c = λ i j h k.
     let x = c.x.inside in

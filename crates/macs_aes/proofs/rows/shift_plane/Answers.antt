@@ -1,12 +1,8 @@
 use Rattle.std.proofs.Common.{[], ◌∷◌}
 use Rattle.macs_aes.specs.Rows.{shifted}
-use Rattle.macs_aes.proofs.Moves.{moved, moved_from, moved_lanes}
+use Rattle.macs_aes.proofs.Moves.{moved, moved_from}
 use Rattle.macs_aes.proofs.RowMoves.{rows_swapped, shift_plane_from, shift_plane_moves}
 use Rattle.macs_aes.proofs.rows.shift_plane.Goals as goal
-
-pub returns-clause-lanes : goal.returns-clause-lanes
-unfolding moved rows_swapped shift_plane_moves
-returns-clause-lanes g c = moved_lanes g.row.N shift_plane_moves (c.args.x ∷ []) (c.requires, tt)
 
 pub returns-clause-bits : goal.returns-clause-bits
 unfolding moved rows_swapped shift_plane_moves

@@ -1,22 +1,11 @@
 use Rattle.std.proofs.Common.{◌∙◌, ℕ, ap₂, refl, [], ◌∷◌, ◌++◌, bit_xor}
 use Rattle.macs_gf.specs.Gf256.{octet_product}
 use Rattle.macs_aes.specs.Blocks.{octet_basis, subfield_basis}
-use Rattle.macs_aes.proofs.Circuit.{are_joined, circuit, circuit_is_ones, circuit_planes, gate, octet_of, octet_was}
-use Rattle.macs_aes.proofs.Circuit.{ones, ones_planes, pick, run}
+use Rattle.macs_aes.proofs.Circuit.{are_joined, circuit, circuit_is_ones, gate, octet_of, octet_was, ones, pick, run}
 use Rattle.macs_aes.specs.Tower.{affine, tower_root}
 use Rattle.macs_aes.proofs.Gates.{affine_of_gates, affine_of_outputs}
 use Rattle.macs_aes.proofs.Tables.{affine_agrees, affine_in}
 use Rattle.macs_aes.proofs.sbox.affine_of.Goals as goal
-
-pub invariant_of-result : goal.invariant_of-result
-unfolding circuit gate pick run ones affine_of_gates affine_of_outputs
-invariant_of-result g c =
-    let e = c.e.inside in
-    let f = c.f.inside in
-    let es = e.p0 ∷ e.p1 ∷ e.p2 ∷ e.p3 ∷ [] in
-    let fs = f.p0 ∷ f.p1 ∷ f.p2 ∷ f.p3 ∷ [] in
-    circuit_planes g.row.N affine_of_gates affine_of_outputs ((es ++ fs) ++ ones g.row.N ∷ []) (are_joined g.row.N
-    (es ++ fs) (ones g.row.N ∷ []) (are_joined g.row.N es fs c.e.invariant c.f.invariant) (ones_planes g.row.N))
 
 pub returns : goal.returns
 unfolding circuit gate pick run ones affine_of_gates affine_of_outputs affine_in

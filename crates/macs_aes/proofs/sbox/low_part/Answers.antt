@@ -1,17 +1,10 @@
 use Rattle.std.proofs.Common.{◌∙◌, ap, refl, [], ◌∷◌}
 use Rattle.macs_aes.specs.Blocks.{octet_basis, subfield_basis}
 use Rattle.macs_aes.specs.Tower.{low_of}
-use Rattle.macs_aes.proofs.Circuit.{circuit, circuit_is, circuit_planes, gate, octet_of, octet_was, pick, run}
+use Rattle.macs_aes.proofs.Circuit.{circuit, circuit_is, gate, octet_of, octet_was, pick, run}
 use Rattle.macs_aes.proofs.Gates.{low_gates, low_outputs}
 use Rattle.macs_aes.proofs.Tables.{low_agrees, low_in}
 use Rattle.macs_aes.proofs.sbox.low_part.Goals as goal
-
-pub invariant_of-result : goal.invariant_of-result
-unfolding circuit gate pick run low_gates low_outputs
-invariant_of-result g c =
-    let x = c.x.inside in
-    circuit_planes g.row.N low_gates low_outputs (x.p0 ∷ x.p1 ∷ x.p2 ∷ x.p3 ∷ x.p4 ∷ x.p5 ∷ x.p6 ∷ x.p7 ∷ [])
-    c.x.invariant
 
 pub returns : goal.returns
 unfolding circuit gate pick run low_gates low_outputs low_in

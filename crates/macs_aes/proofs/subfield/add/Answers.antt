@@ -1,14 +1,7 @@
 use Rattle.std.proofs.Common.{◌∙◌, ap₂, refl, [], ◌∷◌, bit_xor}
 use Rattle.macs_aes.specs.Blocks.{subfield_basis}
-use Rattle.macs_aes.proofs.Circuit.{octet_of, octet_was, xor_each, xor_octets, xor_planes}
+use Rattle.macs_aes.proofs.Circuit.{octet_of, octet_was, xor_each, xor_octets}
 use Rattle.macs_aes.proofs.subfield.add.Goals as goal
-
-pub invariant_of-result : goal.invariant_of-result
-unfolding xor_each
-invariant_of-result g c =
-    let x = c.x.inside in
-    let y = c.y.inside in
-    xor_planes g.row.N (x.p0 ∷ x.p1 ∷ x.p2 ∷ x.p3 ∷ []) (y.p0 ∷ y.p1 ∷ y.p2 ∷ y.p3 ∷ []) c.x.invariant c.y.invariant
 
 pub returns : goal.returns
 unfolding xor_each

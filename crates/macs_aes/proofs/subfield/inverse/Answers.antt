@@ -1,16 +1,10 @@
 use Rattle.std.proofs.Common.{◌∙◌, ap, refl, [], ◌∷◌}
 use Rattle.macs_aes.specs.Blocks.{subfield_basis}
 use Rattle.macs_aes.specs.Tower.{fourteenth}
-use Rattle.macs_aes.proofs.Circuit.{circuit, circuit_is, circuit_planes, gate, octet_of, octet_was, pick, run}
+use Rattle.macs_aes.proofs.Circuit.{circuit, circuit_is, gate, octet_of, octet_was, pick, run}
 use Rattle.macs_aes.proofs.Gates.{inverse_gates, inverse_outputs}
 use Rattle.macs_aes.proofs.Tables.{inverse_agrees, inverse_of}
 use Rattle.macs_aes.proofs.subfield.inverse.Goals as goal
-
-pub invariant_of-result : goal.invariant_of-result
-unfolding circuit gate pick run inverse_gates inverse_outputs
-invariant_of-result g c =
-    let x = c.x.inside in
-    circuit_planes g.row.N inverse_gates inverse_outputs (x.p0 ∷ x.p1 ∷ x.p2 ∷ x.p3 ∷ []) c.x.invariant
 
 pub returns : goal.returns
 unfolding circuit gate pick run inverse_gates inverse_outputs inverse_of

@@ -1,21 +1,10 @@
 use Rattle.std.proofs.Common.{◌∙◌, ap₂, refl, [], ◌∷◌, ◌++◌}
 use Rattle.macs_gf.specs.Gf256.{octet_product}
 use Rattle.macs_aes.specs.Blocks.{subfield_basis}
-use Rattle.macs_aes.proofs.Circuit.{are_joined, circuit, circuit_is, circuit_planes, gate, octet_of, octet_was, pick}
-use Rattle.macs_aes.proofs.Circuit.{run}
+use Rattle.macs_aes.proofs.Circuit.{are_joined, circuit, circuit_is, gate, octet_of, octet_was, pick, run}
 use Rattle.macs_aes.proofs.Gates.{product_gates, product_outputs}
 use Rattle.macs_aes.proofs.Tables.{product_agrees, product_of}
 use Rattle.macs_aes.proofs.subfield.product.Goals as goal
-
-pub invariant_of-result : goal.invariant_of-result
-unfolding circuit gate pick run product_gates product_outputs
-invariant_of-result g c =
-    let x = c.x.inside in
-    let y = c.y.inside in
-    let xs = x.p0 ∷ x.p1 ∷ x.p2 ∷ x.p3 ∷ [] in
-    let ys = y.p0 ∷ y.p1 ∷ y.p2 ∷ y.p3 ∷ [] in
-    circuit_planes g.row.N product_gates product_outputs (xs ++ ys)
-    (are_joined g.row.N xs ys c.x.invariant c.y.invariant)
 
 pub returns : goal.returns
 unfolding circuit gate pick run product_gates product_outputs product_of

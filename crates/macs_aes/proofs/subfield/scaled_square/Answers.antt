@@ -2,16 +2,10 @@ use Rattle.std.proofs.Common.{◌∙◌, ℕ, ap, refl, [], ◌∷◌}
 use Rattle.macs_gf.specs.Gf256.{octet_product}
 use Rattle.macs_aes.specs.Blocks.{subfield_basis}
 use Rattle.macs_aes.specs.Tower.{tower_unit}
-use Rattle.macs_aes.proofs.Circuit.{circuit, circuit_is, circuit_planes, gate, octet_of, octet_was, pick, run}
+use Rattle.macs_aes.proofs.Circuit.{circuit, circuit_is, gate, octet_of, octet_was, pick, run}
 use Rattle.macs_aes.proofs.Gates.{scaled_gates, scaled_outputs}
 use Rattle.macs_aes.proofs.Tables.{scaled_agrees, scaled_of}
 use Rattle.macs_aes.proofs.subfield.scaled_square.Goals as goal
-
-pub invariant_of-result : goal.invariant_of-result
-unfolding circuit gate pick run scaled_gates scaled_outputs
-invariant_of-result g c =
-    let x = c.x.inside in
-    circuit_planes g.row.N scaled_gates scaled_outputs (x.p0 ∷ x.p1 ∷ x.p2 ∷ x.p3 ∷ []) c.x.invariant
 
 pub returns : goal.returns
 unfolding circuit gate pick run scaled_gates scaled_outputs scaled_of

@@ -28,8 +28,3 @@ loop-i-preserved c =
       ],
       c.xtime128-multiple.ensures ∙ ap times_x held.1 ∙ sym (power_next i b),
     )
-
-pub returns : goal.returns
-returns c =
-    let all : c.loop-i.i ≡ 128 = omega arith in
-    rw all at c.loop-i.invariant.0

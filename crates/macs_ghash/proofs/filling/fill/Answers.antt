@@ -1,9 +1,8 @@
-use Rattle.std.proofs.Common.{◌≡◌, ◌+◌, ◌*◌, ◌^◌, ◌<◌, ◌∙◌, ℕ, [], ap, ap₂, arith, bit_xor, get_or}
+use Rattle.std.proofs.Common.{◌≡◌, ◌+◌, ◌*◌, ◌<◌, ◌∙◌, ℕ, [], ap, ap₂, arith, bit_xor, get_or}
 use Rattle.std.specs.Int.{bit_at}
 use Rattle.std.proofs.lemmas.List.{length-set}
 use Rattle.macs_ghash.specs.Tables.{nibble_product, octet_from_left, octets_in}
 use Rattle.macs_ghash.proofs.Filled.{nibble_octet, powers_on}
-use Rattle.macs_ghash.proofs.StringBlocks.{each_below}
 use Rattle.macs_ghash.proofs.TableProducts.{part_more}
 use Rattle.macs_ghash.specs.declared.octets.TheConstants.{SIXTEENS}
 use Rattle.macs_ghash.proofs.filling.fill.Goals as goal
@@ -36,9 +35,3 @@ loop-b-preserved over c =
           (ap (λ (v : ℕ). bit_at n 0 * v) (c.all_octets-x3.ensures p g b h k low) ∙ ap (o 0) on.1.1.1)
           ∙ nibble_octet n w b);
     }
-
-pub returns : goal.returns
-returns over c = record {
-  small = λ l h. each_below (2 ^ 128) c.args.powers.now (omega arith) c.blocks_in_range.ensures l;
-  each = λ b p g n h k l m. c.loop-b.invariant.each b (omega arith) p g n k l m;
-}

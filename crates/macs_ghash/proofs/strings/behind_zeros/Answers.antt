@@ -20,6 +20,3 @@ loop-k-preserved over c =
           held.done (c.put_block.ensures.block ∙ c.input_block.ensures)
           (λ l below other. c.put_block.ensures.others l (omega arith) other);
     }
-
-pub returns-clause-blocks : goal.returns-clause-blocks
-returns-clause-blocks over c = λ k h. c.loop-k.invariant.done k (omega arith)

@@ -21,6 +21,3 @@ loop-p-preserved over c =
           ∙ ap (λ (o : ℕ). o % 16) (get_or-take OCTETS (drop (OCTETS * q) octets) (16 * g + j) 0 (omega arith)
           ∙ get_or-drop (OCTETS * q) octets (16 * g + j) 0 ∙ ap (λ (k : ℕ). get_or octets k 0) place));
     }
-
-pub returns : goal.returns
-returns over c = λ p g j h k l. c.loop-p.invariant.each p (omega arith) g j k l

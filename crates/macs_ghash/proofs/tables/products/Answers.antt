@@ -1,4 +1,4 @@
-use Rattle.std.proofs.Common.{◌+◌, ◌-◌, ◌*◌, ◌<◌, ◌∙◌, ℕ, ap, ap₂, arith, bit_xor, get_or, subst, sym}
+use Rattle.std.proofs.Common.{◌+◌, ◌-◌, ◌*◌, ◌<◌, ◌∙◌, ℕ, ap, ap₂, arith, bit_xor, get_or, sym}
 use Rattle.std.proofs.lemmas.Simd.{get_or-replicate}
 use Rattle.macs_gf.specs.Gf128.{times_power}
 use Rattle.macs_gf.specs.Ghash.{block_at}
@@ -8,23 +8,6 @@ use Rattle.macs_ghash.proofs.TableProducts.{all_products, none_yet, step_taken, 
 use Rattle.macs_ghash.proofs.StringBlocks.{each_below, octet_of_block_at}
 use Rattle.macs_ghash.specs.declared.octets.TheConstants.{OCTETS, SIXTEENS}
 use Rattle.macs_ghash.proofs.tables.products.Goals as goal
-
-pub found_in-at_left-requires : goal.found_in-at_left-requires
-found_in-at_left-requires over c = (
-  omega arith,
-  λ p g j h k l.
-      subst (λ (v : ℕ). v < 16) (sym (c.all_left-left.ensures p g j h k l)) (omega (
-        arith,
-        each_below 256 c.args.octets.now (omega arith) c.octets_in_range.ensures (16 * (SIXTEENS * p + g) + j),
-      )),
-)
-
-pub found_in-at_right-requires : goal.found_in-at_right-requires
-found_in-at_right-requires over c = (
-  omega arith,
-  λ p g j h k l.
-      subst (λ (v : ℕ). v < 16) (sym (c.all_right-right.ensures p g j h k l)) (omega arith),
-)
 
 pub loop-k-init : goal.loop-k-init
 loop-k-init over c =
