@@ -1,11 +1,21 @@
 -- What is said between a client and a relay.
-use Rattle.std.proofs.Common.{◌≡◌, ◌∙◌, ◌||◌, ℕ, Bool, true, false, List, [], ◌∷◌, ◌++◌, Option, Some, None, sym, ap}
-use Rattle.std.proofs.Common.{IfErr, Result, Ok, Err, refl, subst}
+use Rattle.std.proofs.Common.{◌≡◌, ◌∙◌, ◌<◌, ◌^◌, ◌||◌, ℕ, Bool, true, false, List, [], ◌∷◌, ◌++◌, Option, Some, None}
+use Rattle.std.proofs.Common.{sym, ap}
+use Rattle.std.proofs.Common.{IfErr, Result, Ok, Err, arith, codes, refl, subst, suc, zero}
 use Rattle.std.proofs.lemmas.List.{append-nil, append_assoc}
+use Rattle.std.proofs.lemmas.Fmt.{IsAscii-decimal}
+use Rattle.std.proofs.lemmas.Str.{IsUtf8-append, IsUtf8-from_ascii}
+use Rattle.std.specs.Fmt.{decimal}
+use Rattle.std.specs.Prelude.{flat_map}
+use Rattle.std.specs.Str.{IsAscii, IsUtf8}
 use Rattle.macs_commands.specs.Requests.{end_line}
-use Rattle.macs_control.specs.Asking.{Conversation, Outlives, OutlivesNot, Reads, ReadsAndFinds, ReadsAnswer}
-use Rattle.macs_control.specs.Asking.{ReadsSome, SendsSome, conversation}
+use Rattle.macs_control.specs.Asking.{Conversation, EndsAnswer, HasNoEnd, IsOpen, Outlives, OutlivesNot, Reads}
+use Rattle.macs_control.specs.Asking.{ReadsAndFinds, ReadsAnswer, ReadsNoEnd, ReadsNothing, ReadsSome, SendsSome}
+use Rattle.macs_control.specs.Asking.{conversation}
+use Rattle.macs_commands.specs.Inboxes.{HasNoFeed}
 use Rattle.macs_control.specs.Links.{Hears, Link, over_after}
+use Rattle.macs_control.specs.declared.asking.AskFault.{AskFault}
+use Rattle.macs_control.specs.declared.asking.AskFault.TheVariants as asking
 use Rattle.macs_control.specs.declared.seat.Hearing.{Hearing}
 use Rattle.macs_control.specs.declared.seat.Hearing.TheVariants as hears
 
@@ -41,10 +51,85 @@ pub line-after : (start mid new : Option Conversation) (text line : List ℕ) �
 line-after start mid new text line = reads-more start mid new text (line ++ 10 ∷ [])
 
 -- the line that ends an answer
-pub end-after : (start mid new : Option Conversation) (text line : List ℕ) (status : ℕ) → Reads start text mid
-    → Reads mid (line ++ 10 ∷ []) new → line ≡ end_line status → ReadsAnswer start text status new
-end-after start mid new text line status first then is =
-    subst (λ (l : List ℕ). Reads start (text ++ (l ++ 10 ∷ [])) new) is (line-after start mid new text line first then)
+pub end-after : (start mid new : Option Conversation) (text line : List ℕ) (status : ℕ) → IsOpen text
+    → Reads start text mid → Reads mid (line ++ 10 ∷ []) new → line ≡ end_line status
+    → ReadsAnswer start text status new
+end-after start mid new text line status endless first then is = (
+  endless,
+  subst (λ (l : List ℕ). Reads start (text ++ (l ++ 10 ∷ [])) new) is (line-after start mid new text line first then),
+)
+
+-- ---- lines without an end
+
+pub open-none : IsOpen []
+open-none = ([], tt, refl)
+
+lines-more : (lines : List (List ℕ)) (line : List ℕ) → HasNoEnd lines → HasNoFeed line → (EndsAnswer line → ⊥)
+    → HasNoEnd (lines ++ line ∷ [])
+lines-more [] line none whole ends = (whole, ends, tt)
+lines-more (first ∷ lines) line (here, not, others) whole ends =
+    (here, not, lines-more lines line others whole ends)
+
+lined-more : (lines : List (List ℕ)) (line : List ℕ)
+    → flat_map (λ (l : List ℕ). l ++ 10 ∷ []) (lines ++ line ∷ [])
+    ≡ flat_map (λ (l : List ℕ). l ++ 10 ∷ []) lines ++ (line ++ 10 ∷ [])
+lined-more [] line = append-nil (line ++ 10 ∷ [])
+lined-more (first ∷ lines) line =
+    ap (λ (l : List ℕ). (first ++ 10 ∷ []) ++ l) (lined-more lines line)
+    ∙ sym (append_assoc (first ++ 10 ∷ []) (flat_map (λ (l : List ℕ). l ++ 10 ∷ []) lines) (line ++ 10 ∷ []))
+
+-- one more line that ends no answer
+pub open-more : (text line : List ℕ) → IsOpen text → HasNoFeed line → (EndsAnswer line → ⊥)
+    → IsOpen (text ++ (line ++ 10 ∷ []))
+open-more text line (lines, none, is) whole ends = (
+  lines ++ line ∷ [],
+  lines-more lines line none whole ends,
+  ap (λ (l : List ℕ). l ++ (line ++ 10 ∷ [])) is ∙ sym (lined-more lines line),
+)
+
+-- nothing is read after such lines
+pub end-lacking : (start mid new : Option Conversation) (text : List ℕ) → IsOpen text → Reads start text mid
+    → ReadsNothing mid new → ReadsNoEnd start new
+end-lacking start mid new text endless first (ended, then) = (
+  text,
+  ended,
+  endless,
+  subst (λ (l : List ℕ). ReadsAndFinds start l ended new) (append-nil text)
+      (finds-more ended start mid new text [] first then),
+)
+
+-- nor anything more
+pub end-missing : (start new : Option Conversation) (text : List ℕ) → IsOpen text → Reads start text new
+    → ReadsNoEnd start new
+end-missing start new text endless first = (text, false, endless, first)
+
+-- a line that ends an answer is text
+end-word : IsAscii (codes "end")
+end-word zero = omega arith
+end-word (suc zero) = omega arith
+end-word (suc (suc zero)) = omega arith
+end-word (suc (suc (suc i))) = omega arith
+
+blank : IsAscii (codes " ")
+blank zero = omega arith
+blank (suc i) = omega arith
+
+end-text : (status : ℕ) → status < 2 ^ 8 → IsUtf8 (end_line status)
+end-text status small =
+    let digits = IsAscii-decimal status (omega (arith, small)) in
+    IsUtf8-append (codes "end") (codes " " ++ decimal status) (IsUtf8-from_ascii (codes "end") end-word)
+    (IsUtf8-append (codes " ") (decimal status) (IsUtf8-from_ascii (codes " ") blank)
+    (IsUtf8-from_ascii (decimal status) digits))
+
+pub no-text : (line : List ℕ) → (IsUtf8 line → ⊥) → EndsAnswer line → ⊥
+no-text line none (status, small, is) = none (subst IsUtf8 (sym is) (end-text status small))
+
+-- the line that was looked at, in its text
+pub ended-so : (line octets : List ℕ) (found : Option ℕ) → octets ≡ line
+    → ((status : ℕ) → status < 2 ^ 8 → octets ≡ end_line status → found ≡ Some status)
+    → found ≡ None → EndsAnswer line → ⊥
+ended-so line octets found same read none (status, small, is) =
+    let e : None ≡ Some status = sym none ∙ read status small (same ∙ is) in cc
 
 -- some more is read
 pub some-more : (start mid new : Option Conversation) (one other : List ℕ) → Reads start one mid → Reads mid other new
@@ -73,6 +158,10 @@ lasts-no-more start mid new ended has (one, first) (other, then) = (
 pub if-failed : {T E P : Type 0} (result : Result T E) → P → IfErr result (λ _. P)
 if-failed (Ok done) holds = tt
 if-failed (Err fault) holds = holds
+
+pub if-gone : {T P : Type 0} (result : Result T AskFault) → P → IfErr result (λ fault. fault ≡ asking.Gone → P)
+if-gone (Ok done) holds = tt
+if-gone (Err fault) holds = λ gone. holds
 
 -- what a hearing reads: a line, or nothing
 abbrev pub read_in : Hearing → List ℕ

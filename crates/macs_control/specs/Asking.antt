@@ -1,5 +1,6 @@
 -- A client of a relay: what it sends, the lines of the relay, and its answer.
-use Rattle.std.specs.Prelude.{◌≡◌, ◌++◌, ◌||◌, ⊤, ℕ, Bool, true, false, List, [], ◌∷◌, Option, Some, None}
+use Rattle.std.specs.Prelude.{◌≡◌, ◌<◌, ◌^◌, ◌++◌, ◌||◌, ⊤, ℕ, Bool, true, false, List, [], ◌∷◌, flat_map, Option, Some}
+use Rattle.std.specs.Prelude.{None}
 use Rattle.macs_commands.specs.Inboxes.{HasNoFeed}
 use Rattle.macs_commands.specs.Requests.{end_line}
 use Rattle.macs_control.specs.Links.{Link}
@@ -67,6 +68,23 @@ SendsSome old octets new = (first rest : List ℕ) × (octets ≡ first ++ rest)
 abbrev pub ReadsLine : Option Conversation → List ℕ → Option Conversation → Type 0
 ReadsLine old line new = HasNoFeed line × Reads old (line ++ 10 ∷ []) new
 
--- an answer is read: a text, and the line with this status that ends it
+-- a line ends an answer: with some status of 8 bits
+abbrev pub EndsAnswer : List ℕ → Type 0
+EndsAnswer line = (status : ℕ) × (status < 2 ^ 8) × (line ≡ end_line status)
+
+-- lines of which none ends an answer
+abbrev pub HasNoEnd : List (List ℕ) → Type 0
+HasNoEnd [] = ⊤
+HasNoEnd (line ∷ lines) = HasNoFeed line × (EndsAnswer line → ⊥) × HasNoEnd lines
+
+-- a text consists of such lines, each with its line feed
+abbrev pub IsOpen : List ℕ → Type 0
+IsOpen text = (lines : List (List ℕ)) × HasNoEnd lines × (text ≡ flat_map (λ line. line ++ 10 ∷ []) lines)
+
+-- an answer is read: a text without an end, and then the line with this status that ends it
 abbrev pub ReadsAnswer : Option Conversation → List ℕ → ℕ → Option Conversation → Type 0
-ReadsAnswer old text status new = Reads old (text ++ (end_line status ++ 10 ∷ [])) new
+ReadsAnswer old text status new = IsOpen text × Reads old (text ++ (end_line status ++ 10 ∷ [])) new
+
+-- no answer is read: a text without an end, after which the relay may be found to have ended
+abbrev pub ReadsNoEnd : Option Conversation → Option Conversation → Type 0
+ReadsNoEnd old new = (text : List ℕ) × (ended : Bool) × IsOpen text × ReadsAndFinds old text ended new

@@ -3,6 +3,7 @@ pub mod Seats
 pub mod Standings
 pub mod Places
 pub mod Hearings
+pub mod Doors
 pub mod Newcomers
 pub mod ControlSockets
 pub mod Watching

@@ -1,6 +1,7 @@
 -- Clients that connect.
-use Rattle.std.specs.Prelude.{◌≡◌, ◌++◌, ◌∷◌, ◌+◌, ◌-◌, ◌^◌, ◌&&◌, ◌⊎◌, ⊤, ℕ, Bool, true, false, List, [], length}
-use Rattle.std.specs.Prelude.{nat_lt}
+use Rattle.std.specs.Prelude.{◌≡◌, ◌<◌, ◌++◌, ◌∷◌, ◌+◌, ◌-◌, ◌^◌, ◌&&◌, ⊤, ℕ, Bool, true, false, List, [], length, map}
+use Rattle.std.specs.Prelude.{Option, Some, None, nat_lt}
+use Rattle.macs_control.specs.Doors.{IsNobody, LetsIn, LetsInEach}
 use Rattle.macs_control.specs.Places.{has_room, last_of, left, places_of, seat_in, second_of, standing_in}
 use Rattle.macs_control.specs.Seats.{client_of, connection_of, held_by}
 use Rattle.macs_control.specs.Standings.{new_standing}
@@ -26,20 +27,39 @@ pub record TakesIn {S : Type 0} (connection : S) (old new : Seats S) : Type 0 wh
   pub last : last_of new ≡ last_of old + 1
   pub second : second_of new ≡ second_of old
 
--- a client connected, or none: it is taken in if it finds a place, and if the system lets its socket be used
-abbrev pub GreetsOne : {S : Type 0} → Seats S → Bool → Seats S → Type 0
-GreetsOne old false new = new ≡ old
-GreetsOne old true new = (new ≡ old) ⊎ ((connection : _) × (is_open old ≡ true) × TakesIn connection old new)
+-- the same if it finds a place; otherwise nothing changes
+abbrev pub TakesInIf : {S : Type 0} → Bool → S → Seats S → Seats S → Type 0
+TakesInIf true connection old new = TakesIn connection old new
+TakesInIf false connection old new = new ≡ old
+
+-- the next of those that wait is let in, and gets a place if it finds one; or nobody is let in
+abbrev pub GreetsOne : {S : Type 0} → Option (List S) → Seats S → Bool → Option (List S) → Seats S → Type 0
+GreetsOne before old false after new = LetsIn before None after × (new ≡ old)
+GreetsOne before old true after new = (connection : _) × LetsIn before (Some connection) after
+    × TakesInIf (is_open old) connection old new
+
+-- the connections of these
+abbrev pub connections_of : {S : Type 0} → List (Place S) → List S
+connections_of places = map (λ place. connection_of (seat_in place)) places
 
 -- newcomers, with numbers from this one on
 abbrev pub AreNew : {S : Type 0} → ℕ → ℕ → List (Place S) → Type 0
 AreNew now number [] = ⊤
 AreNew now number (place ∷ places) = IsNew now number place × AreNew now (number + 1) places
 
--- newcomers get free places, and nobody loses one
-pub record Greets {S : Type 0} (old new : Seats S) : Type 0 where
+-- Newcomers get free places, in the order in which they are let in, and nobody loses one. While there are numbers, none
+-- that is let in is left without a place
+pub record Greets {S : Type 0} (before : Option (List S)) (old : Seats S) (after : Option (List S)) (new : Seats S)
+    : Type 0 where
   pub newcomers : List (Place S)
+  pub came : List S
+  pub let_in : LetsInEach before came after
+  pub are_theirs : last_of new < 2 ^ 64 - 1 → connections_of newcomers ≡ came
   pub are_new : AreNew (second_of old) (last_of old + 1) newcomers
   pub places : places_of new ≡ places_of old ++ newcomers
   pub last : last_of new ≡ last_of old + length newcomers
   pub second : second_of new ≡ second_of old
+
+-- while there are places and numbers, nobody is left waiting
+abbrev pub LeavesNobody : {S : Type 0} → Option (List S) → Seats S → Type 0
+LeavesNobody after new = length (places_of new) < 4 → last_of new < 2 ^ 64 - 1 → IsNobody after

@@ -1,7 +1,8 @@
 //! The client side: a line is sent, and the lines of the answer are read up to its end.
 
-ghost use Rattle.std.specs.Prelude.{◌≡◌, ◌∷◌, ◌++◌, [], IfOk, IfSome, OnOk};
+ghost use Rattle.std.specs.Prelude.{◌≡◌, ◌∷◌, ◌++◌, [], IfErr, IfOk, MatchOption, OnOk};
 ghost use Rattle.macs_commands.specs.Requests.{end_line};
+ghost use Rattle.macs_control.specs.Asking.{EndsAnswer};
 
 use crate::connection::Connection;
 use crate::seat::{Hearing, Seat};
@@ -45,9 +46,11 @@ pub struct Asker<S> {
     relay: Seat<S>,
 }
 
-/// The status in a line that ends an answer.
+/// The status in a line that ends an answer, `None` if it does not. Fails with `Memory`.
 fn status_in(alloc: Global, line: &Line) -> Result<Option<u8>, AskFault>
-    ensures { IfOk result (λ found. IfSome found (λ status. line.now.items ≡ end_line status)) }
+    ensures read { IfOk result (λ found. MatchOption found (EndsAnswer line.now.items → ⊥)
+        (λ status. line.now.items ≡ end_line status)) }
+    ensures failed { IfErr result (λ fault. fault ≡ AskFault.Memory) }
 {
     let Ok(text) = str::from_utf8(line.as_slice()) else {
         return Ok(None);
@@ -69,7 +72,8 @@ impl<S: Connection> Asker<S> {
     ghost use Rattle.std.specs.Prelude.{◌≡◌, ◌++◌, ◌∷◌, [], ℕ, IfErr, IfOk, IfSome, List, None};
     ghost use Rattle.std.specs.Prelude.{OnOk};
     ghost use Rattle.macs_control.specs.Asking.{Outlives, OutlivesNot, Reads, ReadsAndFinds};
-    ghost use Rattle.macs_control.specs.Asking.{ReadsAnswer, ReadsLine, ReadsNothing, ReadsSome};
+    ghost use Rattle.macs_control.specs.Asking.{ReadsAnswer, ReadsLine, ReadsNoEnd, ReadsNothing};
+    ghost use Rattle.macs_control.specs.Asking.{ReadsSome};
     ghost use Rattle.macs_control.specs.Asking.{Sends, SendsSome};
     ghost use Rattle.macs_control.specs.Asking.{conversation_of, seat_of};
     ghost use Rattle.macs_control.specs.Seats.{connection_of, held_by};
@@ -165,12 +169,15 @@ impl<S: Connection> Asker<S> {
         Err(AskFault::Gone)
     }
 
-    /// Reads an answer up to its end. If that fails, a part of it may have been read.
+    /// Reads an answer up to its end. Fails with `Memory`, when a part of it was read; and with
+    /// `Gone` if the relay goes away before its end, or sends 65,536 lines without one.
     pub fn answer(&mut self, alloc: Global) -> Result<Answer, AskFault>
         ensures answer { IfOk result (λ answer. ReadsAnswer (conversation_of S.link self.old)
             answer.text.items answer.status (conversation_of S.link self.new)) }
         ensures cut { IfErr result (λ fault. ReadsSome (conversation_of S.link self.old)
             (conversation_of S.link self.new)) }
+        ensures gone { IfErr result (λ fault. fault ≡ AskFault.Gone
+            → ReadsNoEnd (conversation_of S.link self.old) (conversation_of S.link self.new)) }
     {
         let mut text = Vec::new(alloc);
         for _line in 0..MAX_LINES {

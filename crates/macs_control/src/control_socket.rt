@@ -1,11 +1,13 @@
 //! The control socket of a relay, and everything that an attended relay sleeps on.
 
 ghost use Rattle.std.specs.Prelude.{◌≡◌, IfOk, is_some, slice_get};
-ghost use Rattle.macs_control.specs.ControlSockets.{HearsAll, socket_of};
-ghost use Rattle.macs_control.specs.Newcomers.{Greets, GreetsOne};
+ghost use Rattle.macs_control.specs.ControlSockets.{HearsAll, HearsIf, gives_place, socket_of};
+ghost use Rattle.macs_control.specs.Newcomers.{Greets, GreetsOne, LeavesNobody};
 ghost use Rattle.macs_control.specs.Places.{places_of};
 
 use crate::binding::{SystemSockets, bind};
+use crate::connection::Connection;
+use crate::door::{Door, Watched};
 use crate::seats::{MAX_CLIENTS, Seats};
 use crate::second::EachSecond;
 use crate::signals::is_told_to_end;
@@ -13,7 +15,7 @@ use crate::watch::{NO_SOCKET, Watch, Wires};
 use macs_commands::requests::{Client, Clients, Heard};
 use std::alloc::{AllocError, Global};
 use std::net::Net;
-use std::os::fd::{AsRawFd, RawFd};
+use std::os::fd::RawFd;
 use std::os::unix::net::{UnixListener, UnixStream};
 use std::rt::{Clock, Files};
 
@@ -43,13 +45,13 @@ impl From<AllocError> for ControlFault {
 
 /// The clients of a relay, and its wires, on which it sleeps too.
 #[derive(Drop)]
-pub struct ControlSocket<'a, T> {
+pub struct ControlSocket<'a, T, L = UnixListener, S = UnixStream> {
     rt: &'a T,
     alloc: Global,
     wires: Wires,
     limit: u16,
-    listener: Option<UnixListener>,
-    seats: Seats<UnixStream>,
+    door: Option<L>,
+    seats: Seats<S>,
     second: EachSecond,
     /// A line was heard last: more may be waiting.
     has_heard: bool,
@@ -57,49 +59,79 @@ pub struct ControlSocket<'a, T> {
     is_still: bool,
 }
 
-/// Accepts a client that connected, and returns whether there was one.
-fn greet_one(listener: &UnixListener, seats: &mut Seats<UnixStream>) -> bool
-    ensures { GreetsOne seats.old result seats.new }
+/// Lets the next client in, and returns whether one waited.
+fn greet_one<L: Door<S>, S: Connection>(door: &mut L, seats: &mut Seats<S>) -> bool
+    ensures greets { GreetsOne (L.waiting door.old) seats.old result
+        (L.waiting door.new) seats.new }
+    ensures same { L.number door.new ≡ L.number door.old }
 {
-    let Ok((stream, _)) = listener.accept() else {
+    let Some(connection) = door.let_in() else {
         return false;
     };
-    if stream.set_nonblocking(true).is_ok() {
-        seats.take_in(stream);
-    }
+    seats.take_in(connection);
     true
 }
 
-/// Accepts clients that connected, as long as a place is free.
-fn greet(listener: &UnixListener, seats: &mut Seats<UnixStream>)
-    ensures { Greets seats.old seats.new }
+/// Lets clients in, as long as a place is free.
+fn greet<L: Door<S>, S: Connection>(door: &mut L, seats: &mut Seats<S>)
+    ensures greets { Greets (L.waiting door.old) seats.old (L.waiting door.new) seats.new }
+    ensures all { LeavesNobody (L.waiting door.new) seats.new }
+    ensures same { L.number door.new ≡ L.number door.old }
 {
     for _place in seats.len()..MAX_CLIENTS {
-        if !greet_one(listener, seats) {
+        if !greet_one(door, seats) {
             return;
         }
     }
 }
 
+/// Whether a newcomer may get the place of a client: no line was heard, four have places, and one
+/// of them is idle.
+fn gives_place<S: Connection>(heard: &Option<Heard>, seats: &Seats<S>) -> bool
+    ensures { result ≡ gives_place heard.now seats.now }
+{
+    heard.is_none() && seats.len() >= MAX_CLIENTS && seats.has_room()
+}
+
 /// Hears the clients. If none of them sends a line, and one of them is idle, the next client that
 /// connected gets its place.
-fn hear(listener: &UnixListener, seats: &mut Seats<UnixStream>) -> Option<Heard>
-    ensures { HearsAll seats.old result seats.new }
+fn hear<L: Door<S>, S: Connection>(door: &mut L, seats: &mut Seats<S>) -> Option<Heard>
+    ensures hears { HearsAll S.link (L.waiting door.old) seats.old result (L.waiting door.new)
+        seats.new }
+    ensures same { L.number door.new ≡ L.number door.old }
 {
-    greet(listener, seats);
+    greet(door, seats);
     let heard = seats.hear();
-    if heard.is_none() && seats.len() >= MAX_CLIENTS && seats.has_room() {
-        greet_one(listener, seats);
+    if gives_place(&heard, seats) {
+        greet_one(door, seats);
     }
     heard
 }
 
+/// Hears the clients if there is a door, unless they are skipped.
+fn hear_if<L: Door<S>, S: Connection>(
+    is_skipped: bool,
+    door: &mut Option<L>,
+    seats: &mut Seats<S>,
+) -> Option<Heard>
+    ensures { HearsIf L.waiting L.number S.link is_skipped door.old seats.old result door.new
+        seats.new }
+{
+    if is_skipped {
+        return None;
+    }
+    match door {
+        Some(door) => hear(door, seats),
+        None => None,
+    }
+}
+
 /// The socket of the client at a place, or none: nothing more arrives from one that sends no more.
-fn socket_at(seats: &Seats<UnixStream>, at: usize) -> RawFd
-    ensures { result ≡ socket_of (slice_get (places_of seats.now) at) }
+fn socket_at<S: Connection + Watched>(seats: &Seats<S>, at: usize) -> RawFd
+    ensures { result ≡ socket_of S.number (slice_get (places_of seats.now) at) }
 {
     if at < seats.len() && !seats.has_ended(at) {
-        seats.connection(at).as_raw_fd()
+        seats.connection(at).descriptor()
     } else {
         NO_SOCKET
     }
@@ -121,10 +153,9 @@ fn listener_at<T: Files + Net>(
     }
 }
 
-impl<'a, T: Files + Clock> ControlSocket<'a, T> {
-    ghost use Rattle.std.specs.Prelude.{◌≡◌, IfOk, is_some};
-    ghost use Rattle.macs_control.specs.ControlSockets.{IsUnused, greeting_of, watch_of};
-    ghost use Rattle.macs_control.specs.Places.{has_room, places_of, second_of};
+impl<'a, T: Files + Net + Clock> ControlSocket<'a, T> {
+    ghost use Rattle.std.specs.Prelude.{IfOk, is_some};
+    ghost use Rattle.macs_control.specs.ControlSockets.{IsUnused};
 
     /// Binds the control socket at `path`; without a path there are no clients. A sleep on it and
     /// on these wires ends after `limit` milliseconds, at most 1,000. Fails with `Memory`, then
@@ -136,39 +167,74 @@ impl<'a, T: Files + Clock> ControlSocket<'a, T> {
         wires: Wires,
         limit: u16,
     ) -> Result<ControlSocket<'a, T>, ControlFault>
-    where
-        T: Net,
         ensures { IfOk result (λ socket. IsUnused (is_some path.entry) wires limit socket) }
     {
         let seats = Seats::new(alloc)?;
-        let listener = listener_at(rt, path)?;
-        Ok(ControlSocket {
+        let door = listener_at(rt, path)?;
+        Ok(ControlSocket::with_seats(rt, alloc, door, seats, wires, limit))
+    }
+}
+
+impl<'a, T: Files + Clock, L: Door<S>, S: Connection + Watched> ControlSocket<'a, T, L, S> {
+    ghost use Rattle.std.specs.Prelude.{◌≡◌, IfOk, is_some};
+    ghost use Rattle.macs_control.specs.ControlSockets.{IsUnused, greeting_of, watch_of};
+    ghost use Rattle.macs_control.specs.Places.{IsEmpty, has_room, places_of, second_of};
+
+    /// A control socket over a door; without one there are no clients. A sleep ends as `bind` says.
+    pub fn over(
+        rt: &'a T,
+        alloc: Global,
+        door: Option<L>,
+        wires: Wires,
+        limit: u16,
+    ) -> Result<ControlSocket<'a, T, L, S>, AllocError>
+        ensures unused { IfOk result (λ socket. IsUnused (is_some door) wires limit socket) }
+        ensures door { IfOk result (λ socket. socket.door ≡ door) }
+    {
+        let seats = Seats::new(alloc)?;
+        Ok(ControlSocket::with_seats(rt, alloc, door, seats, wires, limit))
+    }
+
+    /// The same with seats for its clients.
+    fn with_seats(
+        rt: &'a T,
+        alloc: Global,
+        door: Option<L>,
+        seats: Seats<S>,
+        wires: Wires,
+        limit: u16,
+    ) -> ControlSocket<'a, T, L, S>
+        requires { IsEmpty seats }
+        ensures unused { IsUnused (is_some door) wires limit result }
+        ensures door { result.door ≡ door }
+    {
+        ControlSocket {
             rt,
             alloc,
             wires,
             limit,
-            listener,
+            door,
             seats,
             second: EachSecond::new(),
             has_heard: false,
             is_still: false,
-        })
+        }
     }
 
     /// The listening socket, or none: a client that finds no place waits there.
     fn greeting(&self) -> RawFd
-        ensures { result ≡ greeting_of self.now.listener
+        ensures { result ≡ greeting_of L.number self.now.door
             (has_room (second_of self.now.seats) (places_of self.now.seats)) }
     {
-        match &self.listener {
-            Some(listener) if self.seats.has_room() => listener.as_raw_fd(),
+        match &self.door {
+            Some(door) if self.seats.has_room() => door.descriptor(),
             Some(_) | None => NO_SOCKET,
         }
     }
 
     /// What is watched.
     fn watch(&self) -> Watch
-        ensures { result ≡ watch_of self.now }
+        ensures { result ≡ watch_of L.number S.number self.now }
     {
         let seats = &self.seats;
         Watch {
@@ -182,17 +248,14 @@ impl<'a, T: Files + Clock> ControlSocket<'a, T> {
     }
 }
 
-impl<T: Files + Clock> Clients for ControlSocket<'_, T> {
+impl<T: Files + Clock, L: Door<S>, S: Connection + Watched> Clients for ControlSocket<'_, T, L, S> {
     ghost use Rattle.macs_control.specs.ControlSockets.{Serves};
 
-    ghost does = { Serves };
+    ghost does = { Serves L.waiting L.number S.link };
 
     /// After a sleep that only a wire ended, no client is looked at.
     fn hear(&mut self) -> Option<Heard> {
-        let heard = match &self.listener {
-            Some(listener) if !self.is_still => hear(listener, &mut self.seats),
-            Some(_) | None => None,
-        };
+        let heard = hear_if(self.is_still, &mut self.door, &mut self.seats);
         self.is_still = false;
         self.has_heard = heard.is_some();
         heard

@@ -1,6 +1,7 @@
 //! Addresses of local sockets, as the system takes them.
 
-ghost use Rattle.std.specs.Prelude.{◌≡◌, ◌≤◌, ◌+◌, ◌∷◌, length, take, IfSome};
+ghost use Rattle.std.specs.Prelude.{◌≡◌, ◌≤◌, ◌+◌, ◌∷◌, ◌↔◌, length, take, IfSome, IsSome};
+ghost use Rattle.macs_control.specs.Notices.{IsName};
 
 /// The longest name of a local socket, in octets (unix(7)).
 pub(crate) const MAX_NAME: usize = 107;
@@ -25,6 +26,7 @@ fn put_name(octets: &mut [u8], name: &[u8])
 
 /// The address with these octets, if their number is valid: 1 to 107.
 pub(crate) fn address_with(name: &[u8]) -> Option<LocalAddress>
+    ensures some { IsSome result ↔ IsName name.now }
     ensures count { IfSome result (λ address. address.count ≡ 2 + length name.now) }
     ensures address { IfSome result
         (λ address. take (2 + length name.now) address.octets ≡ 1 ∷ 0 ∷ name.now) }

@@ -1,7 +1,7 @@
 //! Reports the state of the program to its parent (sd_notify(3)).
 
-ghost use Rattle.std.specs.Prelude.{◌≡◌, ◌≤◌, ◌+◌, ◌∷◌, length, take, IfSome};
-ghost use Rattle.macs_control.specs.Notices.{HasAddress, name_octets};
+ghost use Rattle.std.specs.Prelude.{◌≡◌, ◌≤◌, ◌+◌, ◌∷◌, ◌↔◌, length, take, IfSome, IsSome};
+ghost use Rattle.macs_control.specs.Notices.{HasAddress, IsName, name_octets};
 
 use crate::local_address::{LocalAddress, MAX_NAME, address_with};
 use arrayvec::ArrayVec;
@@ -30,6 +30,7 @@ fn name_octets(name: &[u8]) -> Name
 
 /// The address for a name, if it is valid: 1 to 107 octets, a path or an abstract name.
 fn address_of(name: &[u8]) -> Option<LocalAddress>
+    ensures some { IsSome result ↔ IsName name.now }
     ensures count { IfSome result (λ address. address.count ≡ 2 + length name.now) }
     ensures address { IfSome result (λ address. HasAddress name.now address.octets) }
 {

@@ -3,6 +3,7 @@
 
 mod capture_files;
 mod captures;
+mod control;
 mod datagrams;
 mod desk;
 mod endpoints;

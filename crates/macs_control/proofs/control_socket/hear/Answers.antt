@@ -1,33 +1,39 @@
-use Rattle.std.proofs.Common.{◌≡◌, None, false, arith, inl, length, refl, rules}
-use Rattle.std.proofs.lemmas.Bool.Decides.{nat_tests}
-use Rattle.std.specs.Prelude.{nat_lt}
-use Rattle.macs_control.proofs.Greeted.{displaced, is-nothing}
-use Rattle.macs_control.specs.Places.{places_of}
+use Rattle.std.proofs.Common.{◌∙◌, Bool, refl, subst, sym}
+use Rattle.macs_control.specs.ControlSockets.{DisplacesIf}
 use Rattle.macs_control.proofs.control_socket.hear.Goals as goal
 
-pub returns-then-has_room : goal.returns-then-has_room
-returns-then-has_room c =
-    let asked = c.hear-heard.new.self in
-    let none : None ≡ c.hear-heard.result = is-nothing c.hear-heard.result
-    (search (rules, c.is_none.ensures, c.if-is_none.true)) in
-    let size = c.len.ensures in
-    let four : nat_lt (length (places_of asked)) 4 ≡ false = let many = c.if-len-ge-MAX_CLIENTS.true in
-    grind (arith, nat_tests) in record {
+pub returns-then-gives_place-clause-hears : goal.returns-then-gives_place-clause-hears
+returns-then-gives_place-clause-hears g c =
+    let waiting = g.L.Door.waiting in
+    let P : Bool → Type 0 = λ b. DisplacesIf b (waiting c.greet.new.door) c.hear-heard.new.self
+    (waiting c.greet_one.new.door) c.greet_one.new.seats in
+    record {
+      between = waiting c.greet.new.door;
       greeted = c.greet.new.seats;
-      asked = asked;
-      greets = c.greet.ensures;
+      asked = c.hear-heard.new.self;
+      greets = c.greet.ensures.greets;
+      all = c.greet.ensures.all;
       hears = c.hear-heard.ensures.heard;
       counts = c.hear-heard.ensures.counts;
-      displaces = displaced asked c.greet_one.new.seats c.hear-heard.result none four c.greet_one.result
-          c.greet_one.ensures;
+      displaces = subst P (sym c.if-gives_place.true ∙ c.gives_place.ensures)
+          (c.greet_one.result, c.greet_one.ensures.greets);
     }
 
-pub returns-else-is_none : goal.returns-else-is_none
-returns-else-is_none c = record {
-  greeted = c.greet.new.seats;
-  asked = c.hear-heard.new.self;
-  greets = c.greet.ensures;
-  hears = c.hear-heard.ensures.heard;
-  counts = c.hear-heard.ensures.counts;
-  displaces = inl refl;
-}
+pub returns-then-gives_place-clause-same : goal.returns-then-gives_place-clause-same
+returns-then-gives_place-clause-same g c = c.greet_one.ensures.same ∙ c.greet.ensures.same
+
+pub returns-else-gives_place-clause-hears : goal.returns-else-gives_place-clause-hears
+returns-else-gives_place-clause-hears g c =
+    let waiting = g.L.Door.waiting in
+    let P : Bool → Type 0 = λ b. DisplacesIf b (waiting c.greet.new.door) c.hear-heard.new.self
+    (waiting c.greet.new.door) c.hear-heard.new.self in
+    record {
+      between = waiting c.greet.new.door;
+      greeted = c.greet.new.seats;
+      asked = c.hear-heard.new.self;
+      greets = c.greet.ensures.greets;
+      all = c.greet.ensures.all;
+      hears = c.hear-heard.ensures.heard;
+      counts = c.hear-heard.ensures.counts;
+      displaces = subst P (sym c.if-gives_place.false ∙ c.gives_place.ensures) (refl, refl);
+    }
