@@ -1,22 +1,8 @@
 use Rattle.std.proofs.Common.{rules}
 use Rattle.toml.specs.View.{items_view, table_view}
 use Rattle.macs_commands.specs.CommandFiles.{table_commands}
-use Rattle.macs_commands.proofs.Reading.{all-read, answered, no-table, table-fault, table-more}
+use Rattle.macs_commands.proofs.Reading.{table-more}
 use Rattle.macs_commands.proofs.files.command_files.table_commands.Goals as goal
-
-pub returns-in_default-clause-fault : goal.returns-in_default-clause-fault
-returns-in_default-clause-fault g c = λ other.
-    no-table c.args.tables.now c.loop-i.i c.loop-i.commands.items (table_commands 1 (items_view c.args.tables.now))
-    c.loop-i.invariant
-    c.index-tables-i.result c.loop-i-test.true c.index-tables-i.is c.in_default.ensures
-
-pub returns-in_err-command-clause-fault : goal.returns-in_err-command-clause-fault
-returns-in_err-command-clause-fault g c =
-    answered _ _ c.in_err-command.field-0.0 (table_commands 1 (items_view c.args.tables.now)) (search rules)
-    (table-fault c.args.tables.now c.loop-i.i c.loop-i.commands.items (table_commands 1 (items_view c.args.tables.now))
-    c.loop-i.invariant
-    c.index-tables-i.result c.loop-i-test.true c.index-tables-i.is (table_view c.in-Some.table.now) c.in-Some.ensures
-    c.in_err-command.field-0.0 c.in_err-command.ensures)
 
 pub loop-i-preserved : goal.loop-i-preserved
 loop-i-preserved g c =
@@ -25,8 +11,3 @@ loop-i-preserved g c =
     c.index-tables-i.result c.loop-i-test.true c.index-tables-i.is (table_view c.in-Some.table.now) c.in-Some.ensures
     c.in_ok-command.command c.in_ok-command.ensures in
     search (rules, more)
-
-pub returns-clause-commands : goal.returns-clause-commands
-returns-clause-commands g c =
-    all-read c.args.tables.now c.loop-i.i c.loop-i.commands.items (table_commands 1 (items_view c.args.tables.now))
-    c.loop-i.invariant c.loop-i-test.false

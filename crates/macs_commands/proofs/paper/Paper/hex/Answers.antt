@@ -1,7 +1,3 @@
-use Rattle.std.proofs.Common.{◌∙◌, ℕ, List, ap}
-use Rattle.std.proofs.lemmas.List.{take_all}
-use Rattle.hex.specs.Hex.{encode_lower}
-use Rattle.macs_commands.specs.Papers.{written}
 use Rattle.macs_commands.proofs.Written.{no_octet, octet_more}
 use Rattle.macs_commands.proofs.paper.Paper.hex.Goals as goal
 
@@ -12,8 +8,3 @@ pub loop-octet-preserved : goal.loop-octet-preserved
 loop-octet-preserved c =
     octet_more c.args.self.now c.loop-octet.self c.put_octets.new.self c.args.octets.now c.loop-octet.octet-index
     c.write_digits.new.digits c.loop-octet-test.true c.write_digits.ensures c.loop-octet.invariant c.put_octets.ensures
-
-pub returns : goal.returns
-returns c = c.loop-octet.invariant
-    ∙ ap (λ (octets : List ℕ). written c.args.self.now (encode_lower octets))
-    (take_all c.loop-octet.octet-index c.args.octets.now c.loop-octet-test.false)
