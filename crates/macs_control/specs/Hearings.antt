@@ -23,6 +23,7 @@ pub record LooksAt {S : Type 0} (link : S → Option Link) (now : ℕ) (old : Pl
   pub one_line : IsOneLine heard
   pub standing : standing_in new ≡ after_hearing now heard (standing_in old)
 
+-- no line is heard
 abbrev pub IsNoLine : Hearing → Type 0
 IsNoLine (hears.Line line) = ⊥
 IsNoLine other = ⊤

@@ -17,6 +17,7 @@ IsFound {X} range octets_of old result new =
 abbrev pub FieldsRead : Kind → List ℕ → Option Record → List ℕ → Type 0
 FieldsRead kind old result new = IfSome result (λ r. IsRecord r × (kind_of r ≡ kind) × (old ≡ fields_of r ++ new))
 
+-- where such fields begin the octets, they are read, and the rest is left
 abbrev pub FieldsFound : Kind → List ℕ → Option Record → List ℕ → Type 0
 FieldsFound kind old result new =
     (r : Record) (rest : List ℕ) → IsRecord r → kind_of r ≡ kind → old ≡ fields_of r ++ rest
