@@ -23,3 +23,4 @@ pub mod Snapshots
 mod SnapshotLength
 mod Passing
 mod ReadFingerprints
+mod MadeSteps

@@ -10,4 +10,5 @@ pub mod Found
 pub mod Value
 pub mod Keeps
 pub mod Stepping
+pub mod Halves
 pub mod Opening

@@ -5,9 +5,11 @@
 mod ahead;
 mod ceiling_table;
 mod fault;
+mod halves;
 pub mod laws;
 mod meaning;
 mod opening;
+mod remote;
 mod snapshot;
 mod standing;
 mod stepping;
