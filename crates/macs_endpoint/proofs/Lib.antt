@@ -33,3 +33,4 @@ mod WorkThroughCalls
 mod Between
 mod AsBegun
 mod OneCommand
+mod MadeSteps

@@ -22,3 +22,4 @@ pub mod Lives
 pub mod Serving
 pub mod Rooms
 pub mod WorkThroughCalls
+pub mod Halves
