@@ -3,6 +3,7 @@ pub mod Moments
 pub mod Calls
 mod BlownWrites
 mod MissedCalls
+mod RemoteCalls
 mod Kept
 mod ListedCalls
 mod Blank

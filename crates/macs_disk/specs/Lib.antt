@@ -1,7 +1,9 @@
 pub mod States
 pub mod Disk
+pub mod DeviceCalls
 pub mod Runs
 pub mod Fuses
+pub mod RemoteDisks
 pub mod CallLists
 pub mod Memory
 pub mod MemDisks

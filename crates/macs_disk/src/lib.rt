@@ -4,6 +4,7 @@
 mod call_list;
 mod claimed_file;
 mod clearing;
+mod device_call;
 mod disk;
 mod disk_copy;
 mod disk_file;
@@ -16,10 +17,12 @@ pub mod laws;
 mod layout;
 mod log;
 mod memory;
+mod remote;
 mod renewal;
 mod settled_file;
 
 pub use claimed_file::ClaimedFile;
+pub use device_call::DeviceCall;
 pub use disk::{DeviceFault, SectorDisk};
 pub use disk_copy::{DiskCopy, copy_disk};
 pub use disk_file::DiskFile;
@@ -30,5 +33,6 @@ pub use file_opening::make_file;
 pub use fuse::Fuse;
 pub use layout::{Layout, spaced_mark};
 pub use memory::{MemDisk, MemFault};
+pub use remote::RemoteDisk;
 pub use renewal::Renewal;
 pub use settled_file::SettledFile;

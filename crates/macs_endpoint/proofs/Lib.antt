@@ -35,3 +35,4 @@ mod AsBegun
 mod OneCommand
 pub mod Rested
 mod RestCall
+mod MadeSteps

@@ -98,29 +98,30 @@ module _ {D : Type 0} (disk_of : D → disk.Disk) (e : EndpointValue D) (running
 
 -- ---- it goes on
 
-module _ {D : Type 0} (disk_of : D → disk.Disk) (e : EndpointValue D) (kept : IsSoundEndpoint e)
-    (running : is_stopped e ≡ false)
-    (s : store.StoreValue D) (steps : Steps disk_of e.store (Ok Going) s) where
+-- what is in memory
+module _ {D : Type 0} (e : EndpointValue D) (kept : IsSoundEndpoint e) (s : store.StoreValue D)
+    (runs : store.is_stopped s ≡ false) (held : s.held ≡ e.store.held)
+    (going : (¬ IsIdle s) × (store.standing_then s ≡ store.standing_then e.store)) where
   abbrev pub gone_on : EndpointValue D
   gone_on = record e { store = s }
 
   on_same : standing_in s ≡ standing_in e.store
-  on_same = ap standing_of (steps.standing (λ is. cc))
+  on_same = ap standing_of held
 
   on_work : IsReserving e ⊎ IsKeeping e → IsAtRest gone_on ⊎ (IsReserving gone_on ⊎ IsKeeping gone_on)
   on_work (inl work) = inr (inl (record {
-    running = steps.running;
-    busy = (steps.going refl).0;
+    running = runs;
+    busy = going.0;
     raise = work.raise;
     reserving = work.reserving;
     under_way = work.under_way;
-    leads = (steps.going refl).1 ∙ work.leads
+    leads = going.1 ∙ work.leads
         ∙ ap (λ (x : Standing). Some (standing_with_raise x work.raise)) (sym on_same);
     within = subst (λ (x : Standing). IsRaiseWithin e.tx e.rx x.identity work.raise) (sym on_same) work.within;
   }))
   on_work (inr work) = inr (inr (record {
-    running = steps.running;
-    busy = (steps.going refl).0;
+    running = runs;
+    busy = going.0;
     reserving = work.reserving;
     first = work.first;
     rest = work.rest;
@@ -128,39 +129,46 @@ module _ {D : Type 0} (disk_of : D → disk.Disk) (e : EndpointValue D) (kept : 
     under_way = work.under_way;
     in_range = work.in_range;
     after = work.after;
-    leads = (steps.going refl).1 ∙ work.leads;
+    leads = going.1 ∙ work.leads;
     accepted = subst (λ (x : Standing). accept x work.first.command ≡ Ok work.after) (sym on_same) work.accepted;
   }))
 
   pub gone_on-kept : IsReserving e ⊎ IsKeeping e → IsSoundEndpoint gone_on
   gone_on-kept work = kept-held e gone_on kept on_same kept.few kept.tickets (on_work work)
 
-  on_state : (logs : Logs) → state_of gone_on logs ≡ state_of e logs
-  on_state logs = λ i. record {
+  on_state : (running : is_stopped e ≡ false) (logs : Logs) → state_of gone_on logs ≡ state_of e logs
+  on_state running logs = λ i. record {
     edition = this_edition;
     identity = (on_same i).identity;
     config = (on_same i).config;
     next = (txsc.tx_side_of e.tx).next;
     numbers = (rxsc.rx_side_of e.rx).numbers;
     logs = logs;
-    stopped = (steps.running ∙ sym running) i;
+    stopped = (runs ∙ sym running) i;
     under_way = e.under_way;
     waiting = e.waiting;
     tickets = e.tickets;
   }
 
-  pub gone_on-call : IsReserving e ⊎ IsKeeping e → ¬ IsIdle e.store
-      → IsCall disk_of e Advances (Advanced (Ok Worked)) gone_on
-  gone_on-call work busy =
-      let leads = leads-on e kept in
-      advance-call disk_of e running busy (Ok Worked) gone_on (λ logs. inl (on_state logs)) on_same
-      (refl, refl, (steps.going refl).0, steps.left busy) (steps.call busy) refl refl refl refl steps.work.works
-      steps.work.fails
-      (λ honest backed logs. fits-moments e kept disk_of (disk_in disk_of gone_on) logs leads.0 backed.size leads.1
-      (steps.any_moment honest (backed.stored running) leads.0 leads.1))
-      (λ honest backed. kept-backed gone_on (gone_on-kept work) disk_of
-      (subst (λ (n : ℕ). least_sectors ≤ n) (sym steps.work.works.sectors) backed.size)
-      (steps.stored honest (backed.stored running)))
+-- and what is on the disk
+pub gone_on-call : {D : Type 0} (disk_of : D → disk.Disk) (e : EndpointValue D) (kept : IsSoundEndpoint e)
+    (running : is_stopped e ≡ false) (s : store.StoreValue D) → Steps disk_of e.store (Ok Going) s
+    → IsReserving e ⊎ IsKeeping e → ¬ IsIdle e.store
+    → IsCall disk_of e Advances (Advanced (Ok Worked)) (record e { store = s })
+gone_on-call disk_of e kept running s steps work busy =
+    let held = steps.standing (λ is. cc) in
+    let leads = leads-on e kept in
+    advance-call disk_of e running busy (Ok Worked) (record e { store = s })
+    (λ logs. inl (on_state e kept s steps.running held (steps.going refl) running logs)) (ap standing_of held)
+    (refl, refl, (steps.going refl).0, steps.left busy) (steps.call busy) refl refl refl refl steps.work.works
+    steps.work.fails
+    (λ honest backed logs. fits-moments e kept disk_of (disk_in disk_of (record e { store = s })) logs leads.0
+    backed.size leads.1
+    (steps.any_moment honest (backed.stored running) leads.0 leads.1))
+    (λ honest backed. kept-backed (record e { store = s })
+    (gone_on-kept e kept s steps.running held (steps.going refl) work) disk_of
+    (subst (λ (n : ℕ). least_sectors ≤ n) (sym steps.work.works.sectors) backed.size)
+    (steps.stored honest (backed.stored running)))
 
 -- what a step of work under way answers that is not done
 pub still_going : {D : Type 0} (disk_of : D → disk.Disk) (old : store.StoreValue D) (busy : ¬ IsIdle old)
@@ -228,10 +236,7 @@ module _ {D : Type 0} (disk_of : D → disk.Disk) (e : EndpointValue D) (kept : 
   ranges : IsCommand first.command
   ranges = subst (λ (w : Waiting). IsCommand w.command) same_first work.in_range
 
-  module _ (s : store.StoreValue D) (steps : Steps disk_of e.store (Ok Finished) s) where
-    done : IsDone disk_of e.store work.after s
-    done = step-done disk_of e.store work.after work.leads s steps
-
+  module _ (s : store.StoreValue D) (done : IsDone disk_of e.store work.after s) where
     -- the channels may follow
     pub follows : accept (standing_in e.store) first.command ≡ Ok (standing_in s)
     follows = keeps ∙ ap Ok (sym done.stands)
@@ -273,10 +278,11 @@ module _ {D : Type 0} (disk_of : D → disk.Disk) (e : EndpointValue D) (kept : 
             work = inl (record { store = done.idle; reserving = work.reserving; under_way = λ going. refl });
           }
 
-      pub followed-call : txsc.counters_of tx ≡ txsc.counters_of e.tx → rxsc.counters_of rx ≡ rxsc.counters_of e.rx
+      pub followed-call : Steps disk_of e.store (Ok Finished) s
+          → txsc.counters_of tx ≡ txsc.counters_of e.tx → rxsc.counters_of rx ≡ rxsc.counters_of e.rx
           → rxsc.channel_counters_of rx ≡ channel_counters_after_command first.command (rxsc.channel_counters_of e.rx)
           → IsCall disk_of e Advances (Advanced (Ok (Done first.ticket (Ok tt)))) followed
-      followed-call tx_counters rx_counters channel_counters =
+      followed-call steps tx_counters rx_counters channel_counters =
           let parts = accept-parts (standing_in e.store) first.command (standing_in s) follows in
           advance-call disk_of e work.running work.busy (Ok (Done first.ticket (Ok tt))) followed
           (λ logs. (
@@ -316,12 +322,9 @@ module _ {D : Type 0} (disk_of : D → disk.Disk) (e : EndpointValue D) (kept : 
           (done.stored honest (backed.stored work.running)))
 
 module _ {D : Type 0} (disk_of : D → disk.Disk) (e : EndpointValue D) (kept : IsSoundEndpoint e) (work : IsKeeping e)
-    (s : store.StoreValue D) (steps : Steps disk_of e.store (Err fault.Disk) s) where
+    (s : store.StoreValue D) (cut : IsCut disk_of e.store work.after s) where
   abbrev pub cut_short : EndpointValue D
   cut_short = record e { store = s }
-
-  cut : IsCut disk_of e.store work.after s
-  cut = step-cut disk_of e.store work.after work.leads s steps
 
   pub cut_short-kept : IsSoundEndpoint cut_short
   cut_short-kept = kept-held e cut_short kept cut.stands kept.few kept.tickets
@@ -346,8 +349,9 @@ module _ {D : Type 0} (disk_of : D → disk.Disk) (e : EndpointValue D) (kept : 
     tickets = e.tickets;
   }
 
-  pub cut_short-call : IsCall disk_of e Advances (Advanced (Err step.Disk)) cut_short
-  cut_short-call =
+  pub cut_short-call : Steps disk_of e.store (Err fault.Disk) s
+      → IsCall disk_of e Advances (Advanced (Err step.Disk)) cut_short
+  cut_short-call steps =
       advance-call disk_of e work.running work.busy (Err step.Disk) cut_short (λ logs. inl (cut_state logs)) cut.stands
       refl steps.one refl refl refl refl
       steps.work.works steps.work.fails

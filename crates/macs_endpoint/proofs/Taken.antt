@@ -19,6 +19,7 @@ use Rattle.macs_store.specs.Value.{IsIdle, calls_left, standing_in}
 use Rattle.macs_store.specs.Value as store
 use Rattle.macs_endpoint.specs.Advancing.{BeginsWith, ClockAfter, GoesOn, Due, ToKeep, ToRaise, next_due}
 use Rattle.macs_endpoint.specs.Advancing.{due_among, turn_after_step}
+use Rattle.macs_endpoint.specs.Halves.{HasBegun}
 use Rattle.macs_endpoint.specs.Calls.{Fails, IsCall}
 use Rattle.macs_endpoint.specs.Ceilings.{Raise, StandsAdvanced, standing_with_raise}
 use Rattle.macs_endpoint.specs.Counting.{channel_counters_after}
@@ -220,6 +221,18 @@ module _ {D : Type 0} (disk_of : D → disk.Disk) (e : EndpointValue D) (kept : 
   raise-begins mid new result same call =
       let made = subst (λ (x : EndpointValue D). IsCall disk_of x Advances (Advanced result) new) same call in
       by_result result new made ((made.behaves.advances has.running).goes_on has.busy)
+
+  -- it has begun, without one
+  pub raise-begun : (mid : EndpointValue D) → mid ≡ raising → HasBegun disk_of e mid
+  raise-begun mid same =
+      subst (λ (x : EndpointValue D). HasBegun disk_of e x) (sym same) (record {
+        running = has.running;
+        busy = has.busy;
+        device = has.device;
+        state = λ logs. inl (begun-state disk_of e kept running idle raise first s has logs);
+        step = λ result later call. raise-begins raising later result refl call;
+        backed = begun-backed disk_of e kept running idle raise first s has;
+      })
 
 -- ---- nothing begins
 

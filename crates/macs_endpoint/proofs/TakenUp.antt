@@ -16,6 +16,7 @@ use Rattle.macs_store.specs.Value as store
 use Rattle.macs_store.specs.declared.fault.CommitFault.{CommitFault}
 use Rattle.macs_store.specs.declared.fault.CommitFault.TheVariants as commit
 use Rattle.macs_endpoint.specs.Advancing.{BeginsWith, GoesOn, Due, ToKeep, next_due}
+use Rattle.macs_endpoint.specs.Halves.{HasBegun}
 use Rattle.macs_endpoint.specs.Calls.{IsCall}
 use Rattle.macs_endpoint.specs.Ceilings.{StandsAdvanced}
 use Rattle.macs_endpoint.specs.Counting.{channel_counters_after}
@@ -218,6 +219,19 @@ module _ {D : Type 0} (disk_of : D → disk.Disk) (e : EndpointValue D) (kept : 
     keep-begins mid new result same next call =
         let made = subst (λ (x : EndpointValue D). IsCall disk_of x Advances (Advanced result) new) same call in
         by_result result new made ((made.behaves.advances has.running).goes_on has.busy) next
+
+    -- it has begun, without one
+    pub keep-begun : (mid : EndpointValue D) → mid ≡ keeping → next_due e ≡ Some (ToKeep first)
+        → HasBegun disk_of e mid
+    keep-begun mid same next =
+        subst (λ (x : EndpointValue D). HasBegun disk_of e x) (sym same) (record {
+          running = has.running;
+          busy = has.busy;
+          device = has.device;
+          state = λ logs. inr (takes logs (state_of keeping logs) refl);
+          step = λ result later call. keep-begins keeping later result refl next call;
+          backed = taken_backed;
+        })
 
   -- ---- it is refused
 

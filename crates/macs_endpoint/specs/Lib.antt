@@ -23,3 +23,4 @@ pub mod Serving
 pub mod Rooms
 pub mod WorkThroughCalls
 pub mod AtRest
+pub mod Halves

@@ -1,15 +1,16 @@
 //! Work on the disk, one device call at a time, with frames and commands between.
 
-ghost use Rattle.std.specs.Prelude.{◌≡◌, Some, false};
+ghost use Rattle.std.specs.Prelude.{◌≡◌, Some, None, IfSome, false};
 ghost use Rattle.std.specs.Option.{option_map};
 ghost use Rattle.macs_store.specs.Value.{IsIdle};
 ghost use Rattle.macs_endpoint.specs.Advancing.{ToKeep, ToRaise, next_due};
 ghost use Rattle.macs_endpoint.specs.Calls.{IsCall};
+ghost use Rattle.macs_endpoint.specs.Halves.{HasBegun};
 ghost use Rattle.macs_endpoint.specs.KeptCommands.{StartsFirst};
 ghost use Rattle.macs_endpoint.specs.PrivateTypes.{due_of, raise_of};
 ghost use Rattle.macs_endpoint.specs.Queue.{first_waiting};
 ghost use Rattle.macs_endpoint.specs.State.{Advanced, Advances, Submits, Submitted};
-ghost use Rattle.macs_endpoint.specs.Value.{IsKeeping, IsReserving, is_stopped};
+ghost use Rattle.macs_endpoint.specs.Value.{is_stopped};
 
 use crate::endpoint::Endpoint;
 use crate::fault::{CommandFault, StepFault, SubmitFault};
@@ -20,7 +21,8 @@ use crate::turn::Turn;
 use macs_config::Command;
 use macs_config::laws::command_in_range;
 use macs_disk::SectorDisk;
-use macs_store::{CommitFault, JournalStep};
+use macs_record::SECTOR;
+use macs_store::CommitFault;
 
 /// What is due on the disk.
 pub enum Due {
@@ -55,29 +57,36 @@ impl<D: SectorDisk> Endpoint<D> {
     pub fn step(&mut self) -> Result<Step, StepFault>
         ensures call { IsCall D.disk self.old Advances (Advanced result) self.new }
     {
-        if self.is_stopped() {
-            return Err(StepFault::Stopped);
+        if let Some(answer) = self.begin() {
+            return answer;
         }
-        if self.store.is_idle() {
-            return self.begin();
-        }
-        if self.queue.raise().is_some() {
-            self.go_on_reserving()
-        } else {
-            self.go_on_keeping()
-        }
+        let Some(call) = self.next_call() else {
+            return Ok(Step::Idle); // Not reached.
+        };
+        let mut read = [0; SECTOR];
+        let answer = self.make(&call, &mut read);
+        self.did_call(&read, answer)
     }
 
-    /// Begins what is due next, if anything. No work is under way.
-    fn begin(&mut self) -> Result<Step, StepFault>
-        requires running { is_stopped self.old ≡ false }
-        requires idle { IsIdle self.old.store }
-        ensures { IsCall D.disk self.old Advances (Advanced result) self.new }
+    /// Begins what is due, unless work is under way, and makes no device call: the first part of a
+    /// `step`. `None` if work is under way then: `next_call` returns the call that it needs.
+    /// Otherwise the answer of a step that is complete without one: `Stopped`, `Idle`, a command
+    /// that is refused, or no room for a compaction that is needed.
+    pub fn begin(&mut self) -> Option<Result<Step, StepFault>>
+        ensures ended { IfSome result
+            (λ answer. IsCall D.disk self.old Advances (Advanced answer) self.new) }
+        ensures begun { result ≡ None → HasBegun D.disk self.old self.new }
     {
+        if self.is_stopped() {
+            return Some(Err(StepFault::Stopped));
+        }
+        if !self.store.is_idle() {
+            return None;
+        }
         match self.next_due() {
             Some(Due::Raise(raise)) => self.begin_raise(raise),
             Some(Due::Keep(first)) => self.begin_command(first),
-            None => Ok(Step::Idle),
+            None => Some(Ok(Step::Idle)),
         }
     }
 
@@ -96,35 +105,38 @@ impl<D: SectorDisk> Endpoint<D> {
         }
     }
 
-    /// Starts a reservation and makes its first device call.
-    fn begin_raise(&mut self, raise: Raise) -> Result<Step, StepFault>
+    /// Starts a reservation, unless there is no room for it.
+    fn begin_raise(&mut self, raise: Raise) -> Option<Result<Step, StepFault>>
         requires running { is_stopped self.old ≡ false }
         requires idle { IsIdle self.old.store }
         requires next { next_due self.old ≡ Some (ToRaise (raise_of raise)) }
-        ensures { IsCall D.disk self.old Advances (Advanced result) self.new }
+        ensures ended { IfSome result
+            (λ answer. IsCall D.disk self.old Advances (Advanced answer) self.new) }
+        ensures begun { result ≡ None → HasBegun D.disk self.old self.new }
     {
         if self.start_raise(raise).is_err() {
             self.turn = Turn::Command;
-            return Err(StepFault::GenerationsSpent);
+            return Some(Err(StepFault::GenerationsSpent));
         }
-        self.go_on_reserving()
+        None
     }
 
-    /// Starts the first pending command and makes its first device call, or reports why it is not
-    /// kept.
-    fn begin_command(&mut self, first: Waiting) -> Result<Step, StepFault>
+    /// Starts the first pending command, or reports why it is not kept.
+    fn begin_command(&mut self, first: Waiting) -> Option<Result<Step, StepFault>>
         requires running { is_stopped self.old ≡ false }
         requires idle { IsIdle self.old.store }
         requires next { next_due self.old ≡ Some (ToKeep first) }
-        ensures { IsCall D.disk self.old Advances (Advanced result) self.new }
+        ensures ended { IfSome result
+            (λ answer. IsCall D.disk self.old Advances (Advanced answer) self.new) }
+        ensures begun { result ≡ None → HasBegun D.disk self.old self.new }
     {
         command_in_range(&first.command);
         if let Err(fault) = self.start_first(first) {
             self.queue.pop();
             self.turn = Turn::Reservation;
-            return Ok(Step::Done(first.ticket, Err(CommandFault::from(fault))));
+            return Some(Ok(Step::Done(first.ticket, Err(CommandFault::from(fault)))));
         }
-        self.go_on_keeping()
+        None
     }
 
     /// Starts the first pending command, and makes no device call. Fails as the store does.
@@ -138,46 +150,5 @@ impl<D: SectorDisk> Endpoint<D> {
         self.store.start_commit(&first.command)?;
         self.queue.begin_first();
         Ok(())
-    }
-
-    /// The next device call of a reservation under way. With the last one the ceiling is raised.
-    fn go_on_reserving(&mut self) -> Result<Step, StepFault>
-        requires { IsReserving self.old }
-        ensures { IsCall D.disk self.old Advances (Advanced result) self.new }
-    {
-        match self.store.step() {
-            Ok(progress) => match progress {
-                JournalStep::Finished => {
-                    let raise = self.queue.end_raise().unwrap();
-                    self.channels.raise(raise, &self.store);
-                    self.turn = Turn::Command;
-                    Ok(Step::Reserved)
-                }
-                _ => Ok(Step::Worked),
-            },
-            Err(_) => {
-                self.queue.end_raise(); // The next opening finds it or not.
-                Err(StepFault::Disk)
-            }
-        }
-    }
-
-    /// The next device call of the command under way. With the last one it takes effect.
-    fn go_on_keeping(&mut self) -> Result<Step, StepFault>
-        requires { IsKeeping self.old }
-        ensures { IsCall D.disk self.old Advances (Advanced result) self.new }
-    {
-        match self.store.step() {
-            Ok(progress) => match progress {
-                JournalStep::Finished => {
-                    let done = self.queue.pop();
-                    self.channels.follow(&done.command, &self.store);
-                    self.turn = Turn::Reservation;
-                    Ok(Step::Done(done.ticket, Ok(())))
-                }
-                _ => Ok(Step::Worked),
-            },
-            Err(_) => Err(StepFault::Disk),
-        }
     }
 }

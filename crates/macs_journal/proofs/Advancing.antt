@@ -28,22 +28,22 @@ use Rattle.macs_journal.proofs.Stages.{some-left}
 use Rattle.macs_journal.proofs.Working.{called, done-call}
 
 -- a journal, by what it keeps
-abbrev journal_of : {D : Type 0} → D → Place → UnderWay → Bool → JournalValue D
+abbrev pub journal_of : {D : Type 0} → D → Place → UnderWay → Bool → JournalValue D
 journal_of device place under_way stopped =
     record { disk = device; place = place; under_way = under_way; stopped = stopped }
 
--- what `perform` answers: the call that comes next, or a fault
-abbrev then_comes : {Stage : Type 0} → Option Stage → Result (Option Stage) DeviceFault
+-- what comes of a device call: the one that comes next, or a fault
+abbrev pub then_comes : {Stage : Type 0} → Option Stage → Result (Option Stage) DeviceFault
 then_comes next = Ok next
 
-abbrev faulty : {Stage : Type 0} → DeviceFault → Result (Option Stage) DeviceFault
+abbrev pub faulty : {Stage : Type 0} → DeviceFault → Result (Option Stage) DeviceFault
 faulty fault = Err fault
 
 -- and what the journal answers
-abbrev went : Result (Unit {0}) JournalFault
+abbrev pub went : Result (Unit {0}) JournalFault
 went = Ok tt
 
-abbrev broke : Result (Unit {0}) JournalFault
+abbrev pub broke : Result (Unit {0}) JournalFault
 broke = Err Disk
 
 -- ---- an append

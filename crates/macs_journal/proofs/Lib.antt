@@ -29,3 +29,4 @@ pub mod Holes
 pub mod Looks
 pub mod Faults
 pub mod OnlyReads
+pub mod MadeCalls

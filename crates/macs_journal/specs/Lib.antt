@@ -13,3 +13,4 @@ pub mod Compacting
 pub mod Stepping
 pub mod Contents
 pub mod FirstFault
+pub mod Halves

@@ -1,18 +1,20 @@
 //! Compactions of a journal into its other area.
 
-ghost use Rattle.std.specs.Prelude.{◌≡◌, ◌≤◌, ◌↔◌, None, IfSome, IsTrue, length};
+ghost use Rattle.std.specs.Prelude.{◌≡◌, ◌≤◌, ◌↔◌, false, None, IfSome, IsTrue, length};
 ghost use Rattle.macs_journal.specs.Areas.{slots};
 ghost use Rattle.macs_journal.specs.Compacting.{Compacts, IsBegun, last_generation, next_head};
 ghost use Rattle.macs_journal.specs.Compacting.{with_nothing};
-ghost use Rattle.macs_journal.specs.Stepping.{IsCompactionUnderWay};
-ghost use Rattle.macs_journal.specs.Value.{IsIdle};
+ghost use Rattle.macs_journal.specs.Stepping.{AdvancesCompact, IsCompactionUnderWay};
+ghost use Rattle.macs_journal.specs.Value.{AreLent, IsIdle, is_stopped};
 
+use crate::compact_calls::compact_call;
 use crate::fault::JournalFault;
 use crate::journal::Journal;
+use crate::place::Place;
 use crate::record_source::RecordSource;
 use crate::under_way::UnderWay;
 use macs_disk::SectorDisk;
-use macs_record::{Format, Head};
+use macs_record::{Format, Head, SECTOR};
 
 impl<D: SectorDisk> Journal<D> {
     /// Compacts the journal with the records of a source, 1 to 256, into the area that is not
@@ -42,6 +44,24 @@ impl<D: SectorDisk> Journal<D> {
             self.step_compact(records)?;
         }
         Ok(())
+    }
+
+    /// One device call of the compaction under way, of these records. After a device fault nothing
+    /// is under way.
+    fn step_compact<R: RecordSource>(&mut self, records: &R) -> Result<(), JournalFault>
+        requires busy { IsCompactionUnderWay self.old.under_way }
+        requires running { is_stopped self.old ≡ false }
+        requires lent { AreLent self.old.under_way (R.listed records.now) }
+        ensures { AdvancesCompact D.disk self.old (R.listed records.now) result self.new }
+    {
+        let Place { area, .. } = self.place;
+        let UnderWay::Compact(work) = &self.under_way else {
+            return Ok(());
+        };
+        let call = compact_call(area.other(), &work.head, records, work.stage);
+        let mut read = [0; SECTOR];
+        let answer = call.make(&mut self.disk, &mut read);
+        self.did_compact(&read, answer)
     }
 
     /// Whether a compaction is under way.

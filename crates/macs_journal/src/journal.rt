@@ -19,13 +19,13 @@ ghost use Rattle.macs_journal.specs.Work.{IsSpared, IsWorkOf};
 ghost use Rattle.macs_journal.specs.declared.fault.JournalFault.TheVariants.{Disk, Stopped};
 ghost use Rattle.macs_journal.specs.declared.under_way.UnderWay.TheVariants.{Nothing};
 
-use crate::appending::perform;
+use crate::appending::append_call;
 use crate::area::SLOTS;
 use crate::fault::JournalFault;
 use crate::place::Place;
 use crate::under_way::UnderWay;
 use macs_disk::SectorDisk;
-use macs_record::Record;
+use macs_record::{Record, SECTOR};
 use std::marker::Model;
 
 /// A journal on a disk. After a device fault each call fails with `Stopped` until the disk is
@@ -217,7 +217,7 @@ impl<D: SectorDisk> Journal<D> {
     }
 
     /// One device call of the append under way. After a device fault nothing is under way.
-    pub(crate) fn step_append(&mut self) -> Result<(), JournalFault>
+    fn step_append(&mut self) -> Result<(), JournalFault>
         requires busy { 1 ≤ append_left self.old.under_way }
         requires running { is_stopped self.old ≡ false }
         ensures { AdvancesAppend D.disk self.old result self.new }
@@ -226,21 +226,9 @@ impl<D: SectorDisk> Journal<D> {
         let UnderWay::Append(work) = &self.under_way else {
             return Ok(());
         };
-        match perform(&mut self.disk, area, free, &work.sector, work.stage) {
-            Ok(Some(stage)) => {
-                self.under_way.go_on(stage);
-                Ok(())
-            }
-            Ok(None) => {
-                self.under_way = UnderWay::Nothing;
-                self.place.free += 1;
-                Ok(())
-            }
-            Err(_) => {
-                self.under_way = UnderWay::Nothing; // The next recovery finds the record or not.
-                self.stopped = true;
-                Err(JournalFault::Disk)
-            }
-        }
+        let call = append_call(area, free, &work.sector, work.stage);
+        let mut read = [0; SECTOR];
+        let answer = call.make(&mut self.disk, &mut read);
+        self.did_append(answer)
     }
 }

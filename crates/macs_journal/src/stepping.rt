@@ -1,16 +1,12 @@
 //! A journal's work, one device call at a time.
 
-ghost use Rattle.std.specs.Prelude.{◌≡◌, ◌<◌, ◌≤◌, ◌↔◌, false, length, IsTrue};
-ghost use Rattle.macs_journal.specs.Areas.{other_area, slots};
-ghost use Rattle.macs_journal.specs.Stepping.{Advances, AdvancesCompact, Appends, FitsWork};
-ghost use Rattle.macs_journal.specs.Stepping.{IsCompactionUnderWay, Compaction};
-ghost use Rattle.macs_journal.specs.Stepping.{Starts, Steps, step_of, task_of};
-ghost use Rattle.macs_journal.specs.Value.{AreLent, IsIdle, is_stopped, used_slots};
-ghost use Rattle.macs_journal.specs.declared.under_way.Compacting.{Compacting};
-ghost use Rattle.macs_journal.specs.declared.under_way.UnderWay.TheVariants.{Compact};
+ghost use Rattle.std.specs.Prelude.{◌≡◌, ◌<◌, ◌≤◌, ◌↔◌, length, IsTrue};
+ghost use Rattle.macs_journal.specs.Areas.{slots};
+ghost use Rattle.macs_journal.specs.Stepping.{Appends, FitsWork, Compaction};
+ghost use Rattle.macs_journal.specs.Stepping.{Starts, Steps, task_of};
+ghost use Rattle.macs_journal.specs.Value.{AreLent, IsIdle, used_slots};
 
 use crate::appending::AppendStage;
-use crate::compact_calls::perform;
 use crate::compact_stage::CompactStage;
 use crate::compaction::next_head;
 use crate::fault::JournalFault;
@@ -21,7 +17,7 @@ use crate::under_way::{Appending, Compacting, UnderWay};
 use crate::work::{JournalStep, Work};
 use macs_disk::SectorDisk;
 use macs_record::laws::record_in_range;
-use macs_record::{Record, encode};
+use macs_record::{Record, SECTOR, encode};
 
 impl<D: SectorDisk> Journal<D> {
     /// Starts work, and makes no call of the disk. None is under way before; for an append the area
@@ -106,90 +102,11 @@ impl<D: SectorDisk> Journal<D> {
         if self.stopped {
             return Err(JournalFault::Stopped);
         }
-        if let JournalStep::Finished = self.progress() {
+        let Some(call) = self.next_call(snapshot) else {
             return Ok(JournalStep::Idle);
-        }
-        self.advance(snapshot)?;
-        let progress = self.progress();
-        Ok(progress)
-    }
-
-    /// Whether the work under way continues: if none is under way it is finished.
-    fn progress(&self) -> JournalStep
-        ensures { result ≡ step_of self.now.under_way }
-    {
-        match &self.under_way {
-            UnderWay::Nothing => JournalStep::Finished,
-            UnderWay::Append(_) => JournalStep::Going,
-            UnderWay::Compact(_) => JournalStep::Going,
-        }
-    }
-
-    /// One device call of the work under way. After a device fault nothing is under way.
-    fn advance<R: RecordSource>(&mut self, snapshot: &R) -> Result<(), JournalFault>
-        requires busy { ¬ IsIdle self.old }
-        requires running { is_stopped self.old ≡ false }
-        requires lent { AreLent self.old.under_way (R.listed snapshot.now) }
-        ensures { Advances D.disk self.old (R.listed snapshot.now) result self.new }
-    {
-        match &self.under_way {
-            UnderWay::Nothing => Ok(()),
-            UnderWay::Append(_) => self.step_append(),
-            UnderWay::Compact(_) => self.step_compact(snapshot),
-        }
-    }
-
-    /// One device call of the compaction under way, of these records. After a device fault nothing
-    /// is under way.
-    pub(crate) fn step_compact<R: RecordSource>(&mut self, snapshot: &R) -> Result<(), JournalFault>
-        requires busy { IsCompactionUnderWay self.old.under_way }
-        requires running { is_stopped self.old ≡ false }
-        requires lent { AreLent self.old.under_way (R.listed snapshot.now) }
-        ensures { AdvancesCompact D.disk self.old (R.listed snapshot.now) result self.new }
-    {
-        let Place { area, .. } = self.place;
-        let other = area.other();
-        let done = self.new_place();
-        let UnderWay::Compact(work) = &self.under_way else {
-            return Ok(());
         };
-        match perform(&mut self.disk, other, &work.head, snapshot, work.stage) {
-            Ok(Some(stage)) => {
-                self.under_way.compact_on(stage);
-                Ok(())
-            }
-            Ok(None) => {
-                self.under_way = UnderWay::Nothing;
-                self.place = done;
-                Ok(())
-            }
-            Err(_) => {
-                // The next recovery finds the earlier records or these.
-                self.under_way = UnderWay::Nothing;
-                self.stopped = true;
-                Err(JournalFault::Disk)
-            }
-        }
-    }
-
-    /// Where the journal continues once it is compacted.
-    fn new_place(&self) -> Place
-        ensures { (work : Compacting) → self.now.under_way ≡ Compact work
-            → result ≡ record {
-              area = other_area self.now.place.area;
-              head = work.head;
-              free =
-                  work.head.count;
-            } }
-    {
-        let Place { area, .. } = self.place;
-        match &self.under_way {
-            UnderWay::Compact(work) => Place {
-                area: area.other(),
-                head: work.head,
-                free: u64::from(work.head.count()),
-            },
-            _ => self.place,
-        }
+        let mut read = [0; SECTOR];
+        let answer = call.make(&mut self.disk, &mut read);
+        self.did_call(&read, answer)
     }
 }

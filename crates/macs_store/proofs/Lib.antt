@@ -24,3 +24,4 @@ mod SnapshotLength
 mod Passing
 mod ReadFingerprints
 pub mod Rested
+mod MadeSteps

@@ -1,6 +1,6 @@
 -- One step of a store, from what its journal answers.
-use Rattle.std.proofs.Common.{◌≡◌, ◌≢◌, ◌≤◌, ◌⊎◌, ◌+◌, ◌∙◌, ℕ, true, false, Bool, List, length}
-use Rattle.std.proofs.Common.{Some, Result, Ok, Err, IsErrOf, inl, inr, refl, ap, sym, subst, arith}
+use Rattle.std.proofs.Common.{◌≡◌, ◌≢◌, ◌≤◌, ◌+◌, ◌∙◌, ℕ, true, false, Bool, List, length}
+use Rattle.std.proofs.Common.{Some, Result, Ok, Err, inl, inr, refl, ap, sym, subst, arith}
 use Rattle.macs_config.specs.Config.{this_edition}
 use Rattle.macs_disk.specs.Disk.{Disk, IsDeviceCall, IsHonest}
 use Rattle.macs_disk.specs.Runs.{Leaves}
@@ -57,7 +57,7 @@ module _ {D : Type 0} (disk_of : D → Disk) (s : StoreValue D) where
       Leaves-start (disk_in disk_of s) (StandsForEither (standing_in s) after)
       (under_way-image disk_of s stored after follows)
 
-  rests-stopped : is_stopped s ≡ true → Steps disk_of s (refuses fault.Stopped) s
+  pub rests-stopped : is_stopped s ≡ true → Steps disk_of s (refuses fault.Stopped) s
   rests-stopped is = record {
     stopped = (λ same. is, λ same. refl);
     idle = (λ same. absurd cc, λ both. absurd (let no : true ≡ false = sym is ∙ both.0 in cc));
@@ -81,7 +81,7 @@ module _ {D : Type 0} (disk_of : D → Disk) (s : StoreValue D) where
     kept = λ same. absurd cc;
   }
 
-  rests-idle : is_stopped s ≡ false → IsIdle s → Steps disk_of s (answers Idle) s
+  pub rests-idle : is_stopped s ≡ false → IsIdle s → Steps disk_of s (answers Idle) s
   rests-idle runs idle = record {
     stopped = (λ same. absurd cc, λ is. absurd (let no : true ≡ false = sym is ∙ runs in cc));
     idle = (λ same. (runs, idle), λ both. refl);
@@ -412,71 +412,40 @@ fits-at : {D : Type 0} (s : StoreValue D) (u : UnderWay) → FitsUnderWay s.jour
 fits-at s u fits is = subst (λ (h : UnderWay). FitsUnderWay s.journal (standing_in s) h) is fits
 
 module _ {D : Type 0} (disk_of : D → Disk) (s : StoreValue D)
-    (fits : FitsUnderWay s.journal (standing_in s) s.under_way) (j : JournalValue D) where
-  -- with nothing under way it is stopped, or makes no call
-  resting : s.under_way ≡ Nothing → (result : Result JournalStep JournalFault) → JournalSteps disk_of s result j
-      → IsErrOf result fault.Stopped ⊎ (result ≡ answers Idle)
-  resting nothing result steps = by (is_stopped s) refl where
-    by : (stopped : Bool) → is_stopped s ≡ stopped → IsErrOf result fault.Stopped ⊎ (result ≡ answers Idle)
-    by true is = inl (steps.stopped.1 is)
-    by false is = inr (steps.idle.1 (is, fits-at s Nothing fits nothing))
-
-  -- the journal's call failed, or a call had failed before
+    (fits : FitsUnderWay s.journal (standing_in s) s.under_way) (busy : ¬ IsIdle s) (j : JournalValue D) where
+  -- the journal's call failed
   pub step-failed : (at : JournalFault) → JournalSteps disk_of s (refuses at) j
       → Steps disk_of s (refuses at) (record { journal = j; held = s.held; under_way = Nothing })
   step-failed at steps = by s.under_way refl where
     by : (u : UnderWay) → s.under_way ≡ u
         → Steps disk_of s (refuses at) (record { journal = j; held = s.held; under_way = Nothing })
-    by Nothing is = elim (resting is (refuses at) steps) [
-      | inl stopped ↦
-          let named : fault.Stopped ≡ at = cc in
-          let same : s ≡ record { journal = j; held = s.held; under_way = Nothing } =
-          λ i. record { journal = sym (steps.same (inl stopped)) i; held = s.held; under_way = is i } in
-          subst (λ (f : JournalFault). Steps disk_of s (refuses f)
-          (record { journal = j; held = s.held; under_way = Nothing })) named
-          (subst (λ (t : StoreValue D). Steps disk_of s (refuses fault.Stopped) t) same
-          (rests-stopped disk_of s (steps.stopped.0 stopped)))
-      | inr idle ↦ absurd cc
-    ]
+    by Nothing is = absurd (busy is)
     by (Compacting r) is =
         let its = fits-at s (Compacting r) fits is in
-        turn-failed disk_of s its.0 (compaction-busy disk_of s its.0 r is its.2)
-        (compaction-works disk_of s its.0 r is its.2) at j steps
+        turn-failed disk_of s its.0 busy (compaction-works disk_of s its.0 r is its.2) at j steps
     by (Appending r) is =
         let its = fits-at s (Appending r) fits is in
-        turn-failed disk_of s its.0 (append-busy disk_of s its.0 r is its.2)
-        (append-works disk_of s its.0 r is its.2) at j steps
+        turn-failed disk_of s its.0 busy (append-works disk_of s its.0 r is its.2) at j steps
 
-  -- its call was not the last one, or none was made
-  goes : (runs : is_stopped s ≡ false) → ¬ IsIdle s → ¬ (journal_value.IsIdle s.journal) → (step : JournalStep)
+  -- its call was not the last one
+  goes : (runs : is_stopped s ≡ false) → ¬ (journal_value.IsIdle s.journal) → (step : JournalStep)
       → step ≢ Finished → JournalSteps disk_of s (answers step) j
       → Steps disk_of s (answers step) (record s { journal = j })
-  goes runs busy at_work Idle other steps = absurd (at_work (steps.idle.0 refl).1)
-  goes runs busy at_work Going other steps = turn-going disk_of s runs busy at_work j steps
-  goes runs busy at_work Finished other steps = absurd (other refl)
+  goes runs at_work Idle other steps = absurd (at_work (steps.idle.0 refl).1)
+  goes runs at_work Going other steps = turn-going disk_of s runs busy at_work j steps
+  goes runs at_work Finished other steps = absurd (other refl)
 
   pub step-on : (step : JournalStep) → step ≢ Finished → JournalSteps disk_of s (answers step) j
       → Steps disk_of s (answers step) (record s { journal = j })
   step-on step other steps = by s.under_way refl where
     by : (u : UnderWay) → s.under_way ≡ u → Steps disk_of s (answers step) (record s { journal = j })
-    by Nothing is = elim (resting is (answers step) steps) [
-      | inl stopped ↦ absurd cc
-      | inr idle ↦
-          let named : Idle ≡ step = cc in
-          let same : s ≡ record s { journal = j } =
-          λ i. record { journal = sym (steps.same (inr idle)) i; held = s.held; under_way = s.under_way } in
-          subst (λ (x : JournalStep). Steps disk_of s (answers x) (record s { journal = j })) named
-          (subst (λ (t : StoreValue D). Steps disk_of s (answers Idle) t) same
-          (rests-idle disk_of s (steps.idle.0 idle).0 is))
-    ]
+    by Nothing is = absurd (busy is)
     by (Compacting r) is =
         let its = fits-at s (Compacting r) fits is in
-        goes its.0 (compaction-busy disk_of s its.0 r is its.2) (compaction-works disk_of s its.0 r is its.2)
-        step other steps
+        goes its.0 (compaction-works disk_of s its.0 r is its.2) step other steps
     by (Appending r) is =
         let its = fits-at s (Appending r) fits is in
-        goes its.0 (append-busy disk_of s its.0 r is its.2) (append-works disk_of s its.0 r is its.2)
-        step other steps
+        goes its.0 (append-works disk_of s its.0 r is its.2) step other steps
 
   module _ (r : Record) (steps : JournalSteps disk_of s (answers Finished) j) where
     -- the record is applied

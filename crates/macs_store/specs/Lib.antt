@@ -10,5 +10,6 @@ pub mod Found
 pub mod Value
 pub mod Keeps
 pub mod Stepping
+pub mod Halves
 pub mod Opening
 pub mod Resting

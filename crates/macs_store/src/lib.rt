@@ -5,10 +5,12 @@
 mod ahead;
 mod ceiling_table;
 mod fault;
+mod halves;
 pub mod laws;
 mod meaning;
 mod next_numbers;
 mod opening;
+mod remote;
 mod resting;
 mod snapshot;
 mod standing;

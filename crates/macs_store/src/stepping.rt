@@ -17,7 +17,7 @@ use macs_config::{Checked, Command};
 use macs_disk::SectorDisk;
 use macs_fields::{An, Pn, Sci};
 use macs_journal::{JournalFault, JournalStep};
-use std::mem::replace;
+use macs_record::SECTOR;
 
 impl<D: SectorDisk> Store<D> {
     /// Starts a command, and makes no device call. No work is under way before. Fails with
@@ -111,29 +111,15 @@ impl<D: SectorDisk> Store<D> {
     pub fn step(&mut self) -> Result<JournalStep, JournalFault>
         ensures { Steps D.disk self.old result self.new }
     {
-        self.standing.facts();
-        match self.journal.step(&self.standing) {
-            Ok(step) => match step {
-                JournalStep::Finished => match replace(&mut self.under_way, UnderWay::Nothing) {
-                    UnderWay::Nothing => Ok(JournalStep::Finished), // Not reached.
-                    UnderWay::Compacting(kept) => {
-                        self.journal.start_append(&kept.record()).unwrap();
-                        self.under_way = UnderWay::Appending(kept);
-                        Ok(JournalStep::Going)
-                    }
-                    UnderWay::Appending(kept) => {
-                        // A verdict still holds, since the standing is as it was.
-                        self.standing.keep(&kept);
-                        Ok(JournalStep::Finished)
-                    }
-                },
-                _ => Ok(step),
-            },
-            Err(fault) => {
-                self.under_way = UnderWay::Nothing; // The next opening finds the record or not.
-                Err(fault)
-            }
+        if self.is_stopped() {
+            return Err(JournalFault::Stopped);
         }
+        let Some(call) = self.next_call() else {
+            return Ok(JournalStep::Idle);
+        };
+        let mut read = [0; SECTOR];
+        let answer = self.make(&call, &mut read);
+        self.did_call(&read, answer)
     }
 
     /// Makes the device calls of the work under way up to its end, and none if no work is under

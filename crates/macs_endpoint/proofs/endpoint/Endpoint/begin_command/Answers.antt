@@ -13,7 +13,7 @@ use Rattle.macs_endpoint.specs.declared.turn.Turn.TheVariants.{Reservation}
 use Rattle.macs_endpoint.proofs.Parts.{commanded}
 use Rattle.macs_endpoint.proofs.Working.{at-rest}
 use Rattle.macs_endpoint.proofs.Taken.{takes-first}
-use Rattle.macs_endpoint.proofs.TakenUp.{front-is, keep-begins, refused-ends}
+use Rattle.macs_endpoint.proofs.TakenUp.{front-is, keep-begun, refused-ends}
 use Rattle.macs_endpoint.proofs.endpoint.Endpoint.begin_command.Given.{Over}
 use Rattle.macs_endpoint.proofs.endpoint.Endpoint.begin_command.Goals.{After-start_first}
 use Rattle.macs_endpoint.proofs.endpoint.Endpoint.begin_command.Goals as goal
@@ -25,9 +25,9 @@ starts g c result is =
     subst (λ (r : Result (Unit {0}) CommitFault).
     StartsFirst g.D.SectorDisk.disk c.args.self.now c.args.first r c.start_first.new.self) is c.start_first.ensures
 
-pub returns-in-Err : goal.returns-in-Err
-returns-in-Err g c =
-    let at = (goal.at.returns-in-Err g c).After-start_first in
+pub returns-in-Err-clause-ended : goal.returns-in-Err-clause-ended
+returns-in-Err-clause-ended g c =
+    let at = (goal.at.returns-in-Err-clause-ended g c).After-start_first in
     let d = g.D.SectorDisk.disk in
     let e = c.args.self.now in
     let refused = starts g at (Err c.in-Err.fault) c.in-Err.is in
@@ -51,15 +51,14 @@ returns-in-Err g c =
     refused.starts c.requires.next
     c.from.result c.from.ensures mid same mid.tickets refl))
 
-pub returns : goal.returns
-returns g c =
-    let at = (goal.at.returns g c).After-start_first in
+pub returns-clause-begun : goal.returns-clause-begun
+returns-clause-begun g c = λ none.
+    let at = (goal.at.returns-clause-begun g c).After-start_first in
     let e = c.args.self.now in
     let made = starts g at (Ok tt) c.in_default.is in
     let has = made.starts.under_way in
-    keep-begins g.D.SectorDisk.disk e made.sound c.requires.running c.requires.idle c.args.first
+    keep-begun g.D.SectorDisk.disk e made.sound c.requires.running c.requires.idle c.args.first
     c.command_in_range.ensures
     (takes-first e.turn (raise_in e) (first_waiting e.waiting) c.args.first c.requires.next)
     c.start_first.new.self.store has.0 has.1 has.2
-    c.start_first.new.self c.go_on_keeping.new.self c.go_on_keeping.result made.taken c.requires.next
-    c.go_on_keeping.ensures
+    c.start_first.new.self made.taken c.requires.next

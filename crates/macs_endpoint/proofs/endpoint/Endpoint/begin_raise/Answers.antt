@@ -7,7 +7,7 @@ use Rattle.macs_endpoint.specs.PrivateTypes.{raise_of}
 use Rattle.macs_endpoint.specs.Value.{EndpointValue}
 use Rattle.macs_endpoint.specs.declared.fault.StepFault.TheVariants as step
 use Rattle.macs_endpoint.specs.declared.turn.Turn.TheVariants as turn
-use Rattle.macs_endpoint.proofs.Taken.{on-err, on-ok, raise-begins, raises-first, spent-call}
+use Rattle.macs_endpoint.proofs.Taken.{on-err, on-ok, raise-begun, raises-first, spent-call}
 use Rattle.macs_endpoint.proofs.endpoint.Endpoint.begin_raise.Goals as goal
 
 pub start_raise-requires-clause-first : goal.start_raise-requires-clause-first
@@ -15,8 +15,8 @@ start_raise-requires-clause-first g c =
     let e = c.args.self.now in
     raises-first e.turn (raise_in e) (first_waiting e.waiting) (raise_of c.args.raise) c.requires.next
 
-pub returns-then-is_err : goal.returns-then-is_err
-returns-then-is_err g c =
+pub returns-then-is_err-clause-ended : goal.returns-then-is_err-clause-ended
+returns-then-is_err-clause-ended g c =
     let d = g.D.SectorDisk.disk in
     let e = c.args.self.now in
     let refused =
@@ -27,19 +27,14 @@ returns-then-is_err g c =
     IsCall d e Advances (Advanced (Err step.GenerationsSpent)) (record x { turn = turn.Command })) (sym refused.1)
     (spent-call d e c.requires.running c.requires.idle (raise_of c.args.raise) c.requires.next refused.2))
 
-pub go_on_reserving-requires : goal.go_on_reserving-requires
-go_on_reserving-requires g c =
-    on-ok c.start_raise.result (sym c.is_err.ensures.value ∙ c.if-is_err.false) c.start_raise.ensures.reserving
-
-pub returns : goal.returns
-returns g c =
+pub returns-clause-begun : goal.returns-clause-begun
+returns-clause-begun g c = λ none.
     let e = c.args.self.now in
     let ok = sym c.is_err.ensures.value ∙ c.if-is_err.false in
     let starts = c.start_raise.ensures in
-    raise-begins g.D.SectorDisk.disk e (on-ok c.start_raise.result ok starts.sound) c.requires.running c.requires.idle
+    raise-begun g.D.SectorDisk.disk e (on-ok c.start_raise.result ok starts.sound) c.requires.running c.requires.idle
     (raise_of c.args.raise)
     (raises-first e.turn (raise_in e) (first_waiting e.waiting) (raise_of c.args.raise) c.requires.next) c.requires.next
     c.start_raise.new.self.store
-    (on-ok c.start_raise.result ok starts.under_way) c.start_raise.new.self c.go_on_reserving.new.self
-    c.go_on_reserving.result
-    (on-ok c.start_raise.result ok starts.taken) c.go_on_reserving.ensures
+    (on-ok c.start_raise.result ok starts.under_way) c.start_raise.new.self
+    (on-ok c.start_raise.result ok starts.taken)

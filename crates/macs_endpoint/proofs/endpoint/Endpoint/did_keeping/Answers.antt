@@ -1,0 +1,170 @@
+use Rattle.std.proofs.Common.{◌≡◌, ◌≤◌, ◌∙◌, length, arith, inr, List, None, Result, Ok, Err, refl, sym}
+use Rattle.std.proofs.Common.{ap, subst}
+use Rattle.macs_disk.specs.Disk.{Disk}
+use Rattle.macs_disk.specs.DeviceCalls.{IsMade}
+use Rattle.macs_disk.specs.declared.device_call.DeviceCall.{DeviceCall}
+use Rattle.macs_journal.specs.declared.fault.JournalFault.{JournalFault}
+use Rattle.macs_journal.specs.declared.fault.JournalFault.TheVariants as fault
+use Rattle.macs_journal.specs.declared.work.JournalStep.{JournalStep}
+use Rattle.macs_journal.specs.declared.work.JournalStep.TheVariants.{Finished, Going}
+use Rattle.macs_store.specs.Halves as store
+use Rattle.macs_store.specs.Stepping.{Steps}
+use Rattle.macs_store.specs.Value.{standing_in}
+use Rattle.macs_endpoint.specs.Calls.{IsCall}
+use Rattle.macs_endpoint.specs.Halves.{IsNextCall, with_device}
+use Rattle.macs_endpoint.specs.Parts.{endpoint_of}
+use Rattle.macs_endpoint.specs.State.{Advanced, Advances}
+use Rattle.macs_endpoint.specs.Value.{EndpointValue, IsKeeping, IsSoundEndpoint, disk_in}
+use Rattle.macs_endpoint.specs.declared.progress.Step.TheVariants.{Done}
+use Rattle.macs_endpoint.specs.declared.queue.Waiting.{Waiting}
+use Rattle.macs_endpoint.specs.declared.turn.Turn.TheVariants as turn
+use Rattle.macs_endpoint.proofs.Ended.{IsCut, IsDone, step-cut, step-done}
+use Rattle.macs_endpoint.proofs.MadeSteps.{before-keeping, before-sound, goes-on, memory-cut, memory-done, silent}
+use Rattle.macs_endpoint.proofs.Parts.{commanded}
+use Rattle.macs_endpoint.proofs.Stepped.{cut_short-call, cut_short-kept, followed-call, followed-kept, follows}
+use Rattle.macs_endpoint.proofs.Stepped.{gone_on-call, gone_on-kept, step_fault}
+use Rattle.macs_endpoint.proofs.endpoint.Endpoint.did_keeping.Given.{Over}
+use Rattle.macs_endpoint.proofs.endpoint.Endpoint.did_keeping.Goals.{After-did_call}
+use Rattle.macs_endpoint.proofs.endpoint.Endpoint.did_keeping.Goals as goal
+
+module _ (g : Over) (c : After-did_call g) where
+  abbrev old : EndpointValue g.row.D.Denot
+  old = endpoint_of c.self.inside.store c.self.inside.channels c.self.inside.queue c.self.inside.turn
+
+  abbrev some : Disk
+  some = disk_in g.D.SectorDisk.disk old
+
+  work : IsKeeping old
+  work = rw (← c.self.view_is) at c.requires
+
+  did : (result : Result JournalStep JournalFault) → c.did_call.result ≡ result
+      → store.Did g.D.SectorDisk.disk c.self.inside.store c.args.read.now c.args.answer result c.did_call.new.self
+  did result is =
+      subst (λ (r : Result JournalStep JournalFault). store.Did g.D.SectorDisk.disk c.self.inside.store c.args.read.now
+      c.args.answer r c.did_call.new.self) is c.did_call.ensures
+
+  -- it goes on
+  going : (at : JournalStep) → c.did_call.result ≡ Ok at → (¬ (at ≡ Finished)) → c.did_call.result ≡ Ok Going
+  going at is other = is ∙ ap Ok (goes-on at other (did (Ok at) is).busy)
+
+  -- or a device call failed
+  cut : (at : JournalFault) → c.did_call.result ≡ Err at
+      → IsCut (silent some) c.self.inside.store work.after c.did_call.new.self
+  cut at is =
+      let d = did (Err at) is in
+      memory-cut some c.self.inside.store work.after work.leads c.did_call.new.self d.halted.0 d.halted.1
+      (d.standing (λ same. cc))
+
+  failed : (before : g.row.D.Denot) (asked : DeviceCall) → IsNextCall old asked
+      → IsMade (g.D.SectorDisk.disk before) some asked c.args.read.now c.args.answer → (at : JournalFault)
+      → c.did_call.result ≡ Err at
+      → Steps g.D.SectorDisk.disk (store.with_device c.self.inside.store before) (Err fault.Disk) c.did_call.new.self
+  failed before asked next made at is =
+      let steps = (did (Err at) is).steps before asked next made in
+      subst (λ (f : JournalFault). Steps g.D.SectorDisk.disk (store.with_device c.self.inside.store before) (Err f)
+      c.did_call.new.self)
+      (step_fault g.D.SectorDisk.disk (store.with_device c.self.inside.store before) c.did_call.new.self at work.running
+      steps) steps
+
+  -- or it is done
+  done : c.did_call.result ≡ Ok Finished
+      → IsDone (silent some) c.self.inside.store work.after c.did_call.new.self
+  done is =
+      let d = did (Ok Finished) is in
+      let finished = d.finished refl in
+      memory-done some c.self.inside.store work.after work.leads c.did_call.new.self d.running finished.0 finished.1
+
+pub pop-done-requires : goal.pop-done-requires
+pop-done-requires g c =
+    let at = (goal.at.pop-done-requires g c).After-did_call in
+    subst (λ (w : List Waiting). 1 ≤ length w) (sym (work g at).waiting) (omega arith)
+
+pub follow-requires : goal.follow-requires
+follow-requires g c =
+    let at = (goal.at.follow-requires g c).After-did_call in (
+      standing_in c.self.inside.store,
+      c.self.invariant.channels,
+      follows (silent (some g at)) (old g at) c.self.invariant (work g at) c.pop-done.result
+          c.pop-done.new.self.waiting c.pop-done.ensures.waiting c.did_call.new.self
+          (done g at (c.in-Ok.is ∙ ap Ok c.in-Finished.is)),
+    )
+
+pub invariant_of-self : goal.invariant_of-self
+invariant_of-self g c =
+    let at = (goal.at.invariant_of-self g c).After-did_call in
+    let followed = c.follow.ensures in
+    commanded c.did_call.new.self c.follow.new.self
+    (record c.self.inside.queue { waiting = c.pop-done.new.self.waiting })
+    c.pop-done.new.self
+    turn.Reservation IsSoundEndpoint None c.pop-done.ensures.after (work g at).reserving
+    (followed-kept (silent (some g at)) (old g at) c.self.invariant (work g at) c.pop-done.result
+    c.pop-done.new.self.waiting c.pop-done.ensures.waiting
+    c.did_call.new.self (done g at (c.in-Ok.is ∙ ap Ok c.in-Finished.is)) c.follow.new.self.tx
+    c.follow.new.self.rx
+    followed.channels followed.next followed.numbers)
+
+pub invariant_of-self-in_default : goal.invariant_of-self-in_default
+invariant_of-self-in_default g c =
+    let at = (goal.at.invariant_of-self-in_default g c).After-did_call in
+    let d = did g at (Ok Going) (going g at c.in-Ok.progress c.in-Ok.is c.in_default.not-Finished) in
+    gone_on-kept (old g at) c.self.invariant c.did_call.new.self d.running (d.standing (λ same. cc)) (d.going refl)
+    (inr (work g at))
+
+pub invariant_of-self-in-Err : goal.invariant_of-self-in-Err
+invariant_of-self-in-Err g c =
+    let at = (goal.at.invariant_of-self-in-Err g c).After-did_call in
+    cut_short-kept (silent (some g at)) (old g at) c.self.invariant (work g at) c.did_call.new.self
+    (cut g at c.in-Err.field-0 c.in-Err.is)
+
+pub returns-in-Finished : goal.returns-in-Finished
+returns-in-Finished g c =
+    let at = (goal.at.returns-in-Finished g c).After-did_call in
+    let followed = c.follow.ensures in
+    let d = did g at (Ok Finished) (c.in-Ok.is ∙ ap Ok c.in-Finished.is) in
+    rw (← c.self.view_is) (record {
+      device = d.device;
+      step = λ before asked next made.
+          let e = with_device (old g at) before in
+          let kept = before-sound (old g at) before c.self.invariant in
+          let keeping = before-keeping (old g at) before (work g at) in
+          let steps = d.steps before asked next made in
+          commanded c.did_call.new.self c.follow.new.self
+          (record c.self.inside.queue { waiting = c.pop-done.new.self.waiting })
+          c.pop-done.new.self
+          turn.Reservation
+          (IsCall g.D.SectorDisk.disk e Advances (Advanced (Ok (Done c.pop-done.result.ticket (Ok tt)))))
+          None c.pop-done.ensures.after (work g at).reserving
+          (followed-call g.D.SectorDisk.disk e kept keeping c.pop-done.result
+          c.pop-done.new.self.waiting c.pop-done.ensures.waiting
+          c.did_call.new.self (step-done g.D.SectorDisk.disk e.store keeping.after keeping.leads c.did_call.new.self steps)
+          c.follow.new.self.tx c.follow.new.self.rx
+          followed.channels followed.next followed.numbers steps followed.tx_counters followed.rx_counters
+          followed.channel_counters);
+    })
+
+pub returns-in_default : goal.returns-in_default
+returns-in_default g c =
+    let at = (goal.at.returns-in_default g c).After-did_call in
+    let d = did g at (Ok Going) (going g at c.in-Ok.progress c.in-Ok.is c.in_default.not-Finished) in
+    rw (← c.self.view_is) (record {
+      device = d.device;
+      step = λ before asked next made.
+          gone_on-call g.D.SectorDisk.disk (with_device (old g at) before)
+          (before-sound (old g at) before c.self.invariant) (work g at).running c.did_call.new.self
+          (d.steps before asked next made) (inr (before-keeping (old g at) before (work g at))) (work g at).busy;
+    })
+
+pub returns-in-Err : goal.returns-in-Err
+returns-in-Err g c =
+    let at = (goal.at.returns-in-Err g c).After-did_call in
+    let d = did g at (Err c.in-Err.field-0) c.in-Err.is in
+    rw (← c.self.view_is) (record {
+      device = d.device;
+      step = λ before asked next made.
+          let e = with_device (old g at) before in
+          let keeping = before-keeping (old g at) before (work g at) in
+          let steps = failed g at before asked next made c.in-Err.field-0 c.in-Err.is in
+          cut_short-call g.D.SectorDisk.disk e (before-sound (old g at) before c.self.invariant) keeping
+          c.did_call.new.self (step-cut g.D.SectorDisk.disk e.store keeping.after keeping.leads c.did_call.new.self steps)
+          steps;
+    })
