@@ -1,15 +1,14 @@
 -- The disks of the example hold the work in which its lives are cut short, and what a power loss leaves of it.
-use Rattle.std.proofs.Common.{◌≡◌, ◌≢◌, ◌<◌, ◌≤◌, ◌+◌, ◌-◌, ◌==◌, ◌^◌, ◌&&◌, inl, inr, ℕ, zero, suc, Bool, true, false}
-use Rattle.std.proofs.Common.{cond, List, [], ◌∷◌, ◌++◌, length, take, replicate, get_or, refl, sym, ◌∙◌, ap, subst}
-use Rattle.std.proofs.Common.{arith}
-use Rattle.std.specs.Prelude.{All, nat_lt, slice_get}
+use Rattle.std.proofs.Common.{◌≡◌, ◌<◌, ◌+◌, ◌-◌, ◌==◌, ◌^◌, ◌&&◌, inl, inr, ℕ, zero, suc, Bool, true, false, cond}
+use Rattle.std.proofs.Common.{List, [], ◌∷◌, ◌++◌, length, take, replicate, get_or, refl, sym, ap, subst, arith}
+use Rattle.std.specs.Prelude.{All, nat_lt}
 use Rattle.std.specs.List.{AllByRecursion}
 use Rattle.std.specs.Int.{to_be_bytes, w32, w64}
 use Rattle.std.proofs.lemmas.Bool.{cases_lt, ltb-true}
 use Rattle.std.proofs.lemmas.List.{get_or_past}
 use Rattle.std.proofs.lemmas.List.Elements.{All-append, All-from_recursion, All-get_or, All-replicate}
-use Rattle.macs_disk.specs.Disk.{MayLeave, Works, now}
-use Rattle.macs_disk.specs.States.{DiskState, Image, IsImage, IsSector, put_sector, settled_state, state_after_write}
+use Rattle.macs_disk.specs.Disk.{MayLeave, now}
+use Rattle.macs_disk.specs.States.{DiskState, Image, IsImage, IsSector, put_sector, settled_state}
 use Rattle.macs_disk.proofs.Images.{put-other, put-same}
 use Rattle.macs_record.specs.Gates.{open_gate, open_mark}
 use Rattle.macs_record.specs.Heads.{Head, IsHead, head_mark, head_octets, head_sector_of, version_of}
@@ -18,28 +17,25 @@ use Rattle.macs_record.specs.Sectors.{padded_sector}
 use Rattle.macs_record.specs.declared.record.Record.{Record}
 use Rattle.macs_record.specs.declared.record.Record.TheVariants as kept
 use Rattle.macs_record.proofs.Lengths.{head_sector_length, sector_length}
-use Rattle.macs_journal.specs.Appending.{IsBodyDurable, IsReady, free_body, free_gate}
-use Rattle.macs_journal.specs.Areas.{gate, gates, head_body, slot_body, slots}
-use Rattle.macs_journal.specs.Compacting.{HasOpenGates, next_head}
-use Rattle.macs_journal.specs.Found.{Content, HasJournal, IsGateOpen, content_with_record}
-use Rattle.macs_journal.specs.NewArea.{IsNoBody, IsSettled}
-use Rattle.macs_journal.specs.Stages.{AreBodiesWritten, IsBodyOf, IsCleared}
+use Rattle.macs_journal.specs.Appending.{IsBodyDurable, free_body, free_gate}
+use Rattle.macs_journal.specs.Areas.{gate, head_body, slot_body, slots}
+use Rattle.macs_journal.specs.Compacting.{next_head}
+use Rattle.macs_journal.specs.Found.{Content, HasJournal, content_with_record}
 use Rattle.macs_journal.specs.Value.{IsHolding}
-use Rattle.macs_journal.specs.Work.{IsSpared}
 use Rattle.macs_journal.proofs.Appends.{finds-but-body}
 use Rattle.macs_store.specs.Snapshot.{settings_record}
 use Rattle.macs_headline.specs.Deeds.{IsPassedOn}
 use Rattle.macs_headline.specs.Example.{own_sa}
 use Rattle.macs_headline.specs.ExampleCuts.{IsOneCall, IsRun, Write, append_under_way, append_states, body_writes}
-use Rattle.macs_headline.specs.ExampleCuts.{compacting_disk, compaction_under_way, compaction_states, disk_through}
-use Rattle.macs_headline.specs.ExampleCuts.{killed_disk, place_behind, state_after_writes, torn_image, widening_disk}
-use Rattle.macs_headline.specs.ExampleCuts.{working_disk, compaction_writes}
+use Rattle.macs_headline.specs.ExampleCuts.{compacting_disk, compaction_under_way, disk_through, killed_disk}
+use Rattle.macs_headline.specs.ExampleCuts.{place_behind, state_after_writes, torn_image, widening_disk, working_disk}
 use Rattle.macs_headline.specs.ExampleDisk.{compacted_content, checked, cut_image, ended_content, narrow_content}
 use Rattle.macs_headline.specs.ExampleDisk.{narrow_image, full_content, full_image, full_snapshot, last_content}
 use Rattle.macs_headline.specs.ExampleDisk.{last_image, served_content, served_image, widened}
 use Rattle.macs_headline.specs.ExampleStanding.{served_config}
 use Rattle.macs_headline.specs.Images.{image_with_area, image_with_bodies, image_with_next_body, image_with_record}
-use Rattle.macs_headline.proofs.Built.{area-body, area-head, closed-gate, each_get}
+use Rattle.macs_headline.proofs.Built.{closed-gate}
+use Rattle.macs_headline.proofs.ExampleCompaction.{compacting, last-is}
 use Rattle.macs_headline.proofs.ExampleImages.{far-full, narrow-found, full-found, last-found, last-size, snapshot-size}
 use Rattle.macs_headline.proofs.ExampleRecords.{IsOctet, head-range, six_records, snapshot-is, snapshot-ranges}
 use Rattle.macs_headline.proofs.ExampleRecords.{widened-range, word-range}
@@ -171,163 +167,20 @@ killed-passed = record {
 pub gate-pending : (now killed_disk).pending (free_gate last_content) ≡ true
 gate-pending = put-same (λ _. false) (free_gate last_content) (free_gate last_content) true refl
 
--- ---- writes, one after another
-
--- a sector that none of them writes is as it was
-pub writes_apart : (ws : List Write) (s : DiskState) (i : ℕ) → AllByRecursion (λ (w : Write). i ≢ w.at) ws
-    → ((state_after_writes s ws).seen i ≡ s.seen i) × ((state_after_writes s ws).pending i ≡ s.pending i)
-unfolding state_after_writes
-writes_apart [] s i apart = (refl, refl)
-writes_apart (w ∷ ws) s i apart =
-    let rest = writes_apart ws (state_after_write s w.at w.octets) i apart.1 in
-    (rest.0 ∙ put-other s.seen w.at i w.octets apart.0, rest.1 ∙ put-other s.pending w.at i true apart.0)
-
--- none of them is durable
-pub writes_durable : (ws : List Write) (s : DiskState) → (state_after_writes s ws).durable ≡ s.durable
-unfolding state_after_writes
-writes_durable [] s = refl
-writes_durable (w ∷ ws) s = writes_durable ws (state_after_write s w.at w.octets)
-
--- after them reads give the sectors that were written
-pub bodies_seen : (rs : List Record) (s : DiskState) (area place : ℕ)
-    → (state_after_writes s (body_writes area place rs)).seen ≡ image_with_bodies s.seen area place rs
-unfolding state_after_writes body_writes image_with_bodies
-bodies_seen [] s area place = refl
-bodies_seen (r ∷ rs) s area place =
-    bodies_seen rs (state_after_write s (slot_body area place) (sector_of r)) area (place + 1)
-
 -- ---- a compaction that is cut short
 
-abbrev head : Head
-head = next_head full_content.head (length full_snapshot)
+abbrev full_head : Head
+full_head = next_head full_content.head (length full_snapshot)
 
--- the first writes: that of the head's body, and those of the first two records
+-- the first write
 abbrev head_write : Write
-head_write = record { at = head_body 1; octets = head_sector_of head }
+head_write = record { at = head_body 1; octets = head_sector_of full_head }
 
 two_records : take 2 full_snapshot ≡ take 2 six_records
 two_records = ap (λ (rs : List Record). take 2 rs) snapshot-is
 
-abbrev three_writes : List Write
-three_writes = head_write ∷ body_writes 1 0 (take 2 full_snapshot)
-
-writes_are : take 3 (compaction_writes full_content full_snapshot) ≡ three_writes
-unfolding body_writes
-writes_are =
-    ap (λ (rs : List Record). head_write ∷ take 2 (body_writes 1 0 rs)) snapshot-is
-    ∙ ap (λ (rs : List Record). head_write ∷ body_writes 1 0 rs) (sym two_records)
-
--- at a moment of the calls
-abbrev moment : ℕ → DiskState
-moment = compaction_states full_image full_content full_snapshot
-
-early : (k : ℕ) → k ≤ 258 → moment k ≡ settled_state full_image
-unfolding state_after_writes
-early k le = let none : k - 258 ≡ 0 = omega (arith, le) in
-    ap (λ (n : ℕ).
-    state_after_writes (settled_state full_image) (take n (compaction_writes full_content full_snapshot))) none
-
-last_is : moment 261 ≡ state_after_writes (settled_state full_image) three_writes
-last_is = ap (λ (ws : List Write). state_after_writes (settled_state full_image) ws) writes_are
-
-seen_is : (moment 261).seen ≡ cut_image 2
-unfolding state_after_writes image_with_area
-seen_is = ap (λ (s : DiskState). s.seen) last_is ∙ bodies_seen (take 2 full_snapshot)
-    (state_after_write (settled_state full_image) (head_body 1) (head_sector_of head)) 1 0
-
--- no gate of the other area is open
-all_closed : (k : ℕ) → k < gates → ¬ IsGateOpen full_image 1 k
-all_closed k lt = closed-gate full_image 1 k (far-full (gate 1 k) (omega arith))
-
-none_open : (upto count : ℕ) → ((k : ℕ) → k < upto → ¬ IsGateOpen full_image 1 k)
-    → HasOpenGates full_image 1 upto count → count ≡ 0
-unfolding HasOpenGates
-none_open zero count closed has = has
-none_open (suc upto) count closed (inl (opens, more)) = absurd (closed upto (omega arith) opens)
-none_open (suc upto) count closed (inr (shut, has)) = none_open upto count (λ k lt. closed k (omega (arith, lt))) has
-
-on : (from to : ℕ) → from ≤ to → Works (disk_through moment from) (disk_through moment to)
-on from to le =
-    record { later = le; past = λ k lt. refl; failures = omega arith; worn = λ is. is; sectors = refl; honest = refl }
-
--- a sector is spared from one moment to another, if it is as it was at each moment between
-spared : (from to i : ℕ)
-    → ((k : ℕ) → from ≤ k → k ≤ to → ((moment k).seen i ≡ full_image i) × ((moment k).pending i ≡ false)) → from ≤ to
-    → IsSpared (disk_through moment from) (disk_through moment to) i
-spared from to i same le = record {
-  reads = λ k low high. (same k low high).0 ∙ sym (same from (omega arith) le).0;
-  leaves = λ k low high octets may. record {
-    kept = λ clean. may.kept (same k low high).1 ∙ ap (λ (d : Image). d i) (durable_at k)
-        ∙ sym (ap (λ (d : Image). d i) (durable_at from));
-    whole = λ pending. let both : true ≡ false = sym pending ∙ (same from (omega arith) le).1 in absurd (cc);
-  };
-} where
-  durable_at : (k : ℕ) → (moment k).durable ≡ full_image
-  durable_at k =
-      writes_durable (take (k - 258) (compaction_writes full_content full_snapshot)) (settled_state full_image)
-
-cleared : IsCleared (disk_through moment 0) (disk_through moment 258) 1
-cleared = record {
-  works = on 0 258 (omega arith);
-  calls = λ opened has. let none = none_open gates opened all_closed
-      (subst (λ (s : DiskState). HasOpenGates s.seen 1 gates opened) (early 0 (omega arith)) has) in
-      omega (arith, none);
-  settled = subst IsSettled (sym (early 258 (omega arith))) (record { clean = λ i. refl; fresh = λ i. refl });
-  closed = λ k low lt opens.
-      absurd (all_closed k lt (subst (λ (s : DiskState). IsGateOpen s.seen 1 k) (early 0 (omega arith)) opens));
-  shut =
-      λ k lt opens. all_closed k lt (subst (λ (s : DiskState). IsGateOpen s.seen 1 k) (early 258 (omega arith)) opens);
-  spared = λ i apart. spared 0 258 i (λ k low high. (
-    ap (λ (s : DiskState). s.seen i) (early k high),
-    ap (λ (s : DiskState). s.pending i) (early k high),
-  )) (omega arith);
-}
-
--- a sector that is none of the three is none of those that were written until then
-pub first_apart : (P : Write → Type 0) (n : ℕ) (ws : List Write) → AllByRecursion P ws → AllByRecursion P (take n ws)
-first_apart P zero ws all = tt
-first_apart P (suc n) [] all = tt
-first_apart P (suc n) (w ∷ ws) all = (all.0, first_apart P n ws all.1)
-
-three_apart : (i : ℕ) → i ≢ head_body 1 → IsNoBody 1 2 i → AllByRecursion (λ (w : Write). i ≢ w.at) three_writes
-unfolding body_writes
-three_apart i apart none =
-    subst (λ (rs : List Record). AllByRecursion (λ (w : Write). i ≢ w.at) (head_write ∷ body_writes 1 0 rs))
-    (sym two_records)
-    (apart, (none 0 (omega arith), (none 1 (omega arith), tt)))
-
--- how many of the first three writes were made, some calls after the sync
-pub some_of : (n : ℕ) → n ≤ 3 → (ws : List Write) → take n ws ≡ take n (take 3 ws)
-some_of zero le ws = refl
-some_of (suc n) le [] = refl
-some_of (suc zero) le (a ∷ ws) = refl
-some_of (suc (suc zero)) le (a ∷ []) = refl
-some_of (suc (suc zero)) le (a ∷ b ∷ ws) = refl
-some_of (suc (suc (suc zero))) le (a ∷ []) = refl
-some_of (suc (suc (suc zero))) le (a ∷ b ∷ []) = refl
-some_of (suc (suc (suc zero))) le (a ∷ b ∷ c ∷ ws) = refl
-some_of (suc (suc (suc (suc n)))) le ws = absurd (omega (arith, le))
-
-untouched : (i : ℕ) → i ≢ head_body 1 → IsNoBody 1 2 i → (k : ℕ) → 258 ≤ k → k ≤ 261
-    → ((moment k).seen i ≡ full_image i) × ((moment k).pending i ≡ false)
-untouched i apart none k low high =
-    let n = k - 258 in
-    let is : take n (compaction_writes full_content full_snapshot) ≡ take n three_writes =
-    some_of n (omega (arith, low, high)) (compaction_writes full_content full_snapshot)
-    ∙ ap (λ (ws : List Write). take n ws) writes_are in
-    subst (λ (ws : List Write). ((state_after_writes (settled_state full_image) ws).seen i ≡ full_image i)
-    × ((state_after_writes (settled_state full_image) ws).pending i ≡ false))
-    (sym is) (writes_apart (take n three_writes) (settled_state full_image) i
-    (first_apart (λ (w : Write). i ≢ w.at) n three_writes (three_apart i apart none)))
-
--- the bodies of the first two records
-first_two : (slot : ℕ) → slot < 2 → slice_get (take 2 full_snapshot) slot ≡ slice_get full_snapshot slot
-first_two zero lt = subst (λ (rs : List Record). slice_get (take 2 rs) 0 ≡ slice_get rs 0) (sym snapshot-is) refl
-first_two (suc zero) lt = subst (λ (rs : List Record). slice_get (take 2 rs) 1 ≡ slice_get rs 1) (sym snapshot-is) refl
-first_two (suc (suc n)) lt = absurd (omega (arith, lt))
-
-next_range : IsHead head
-next_range = record {
+head_range : IsHead full_head
+head_range = record {
   generation = omega arith;
   generations = omega arith;
   some = omega (arith, snapshot-size);
@@ -337,43 +190,14 @@ next_range = record {
   rx_block = head-range.rx_block;
 }
 
-body_is : (slot : ℕ) → slot < 2 → IsBodyOf full_snapshot slot ((moment 261).seen (slot_body 1 slot))
-body_is slot lt r is = record {
-  range = each_get full_snapshot slot r (subst (AllByRecursion IsRecord) (sym snapshot-is) snapshot-ranges) is;
-  octets = sym (ap (λ (seen : Image). seen (slot_body 1 slot)) seen_is
-      ∙ area-body full_image 1 head (take 2 full_snapshot) slot r (first_two slot lt ∙ is));
-}
-
-bodies_written : AreBodiesWritten (disk_through moment 0) compacting_disk 1 head full_snapshot 2
-bodies_written = record {
-  mid = disk_through moment 258;
-  cleared = cleared;
-  works = on 258 261 (omega arith);
-  calls = refl;
-  head_is = record {
-    range = next_range;
-    octets =
-        sym (ap (λ (seen : Image). seen (head_body 1)) seen_is ∙ area-head full_image 1 head (take 2 full_snapshot));
-  };
-  bodies = body_is;
-  others = λ i apart none. spared 258 261 i (untouched i apart none) (omega arith);
-}
-
 pub compacting-holds : IsHolding compacting_disk (place_behind full_content) compaction_under_way full_content
     compacted_content
 compacting-holds = record {
   at = record { area = refl; head = refl; free = refl };
-  holds = record {
-    began = disk_through moment 0;
-    records = full_snapshot;
-    ready = subst (λ (s : DiskState). IsReady s full_content) (sym (early 0 (omega arith)))
-        (record { clean = λ i. refl; fresh = λ i. refl; finds = full-found });
-    becomes = refl;
-    next = refl;
-    few = omega (arith, snapshot-size);
-    fits = omega (arith, snapshot-size);
-    at = bodies_written;
-  };
+  holds = compacting full_image full_content full_snapshot
+      (λ k lt. closed-gate full_image 1 k (far-full (gate 1 k) (omega arith))) full-found head_range
+      (subst (AllByRecursion IsRecord) (sym snapshot-is) snapshot-ranges) (omega (arith, snapshot-size))
+      (omega (arith, snapshot-size));
 }
 
 -- ---- what a power loss leaves of it
@@ -409,8 +233,8 @@ head-sector h is = record {
       octet_at (head_sector_of h) (padded_range (head_octets h) (head_octets_range h is));
 }
 
-head_whole : IsSector (head_sector_of head)
-head_whole = head-sector head next_range
+head_whole : IsSector (head_sector_of full_head)
+head_whole = head-sector full_head head_range
 
 settings_whole : IsSector (sector_of (settings_record served_config))
 settings_whole = record_sector (settings_record served_config) snapshot-ranges.0 refl
@@ -448,22 +272,22 @@ module _ (one first second : List ℕ) (is_one : IsSector one) (is_first : IsSec
 
   pub torn-left : MayLeave compacting_disk (torn_image one first second)
   torn-left =
-      subst (λ (s : DiskState). IsImage s (torn_image one first second)) (sym last_is)
+      subst (λ (s : DiskState). IsImage s (torn_image one first second)) (sym (last-is full_image full_content full_snapshot))
       (subst (λ (rs : List Record). IsImage (state_after_writes (settled_state full_image)
       (head_write ∷ body_writes 1 0 rs)) (torn_image one first second))
       (sym two_records) by_six)
 
 -- the octets that were written among them
 cut_is_torn : cut_image 2
-    ≡ torn_image (head_sector_of head) (sector_of (settings_record served_config)) (sector_of (kept.TxSa 0 own_sa 13))
+    ≡ torn_image (head_sector_of full_head) (sector_of (settings_record served_config)) (sector_of (kept.TxSa 0 own_sa 13))
 unfolding image_with_area image_with_bodies
 cut_is_torn = ap (λ (rs : List Record).
-    image_with_bodies (put_sector full_image (head_body 1) (head_sector_of head)) 1 0 rs) two_records
+    image_with_bodies (put_sector full_image (head_body 1) (head_sector_of full_head)) 1 0 rs) two_records
 
 pub cut-left : MayLeave compacting_disk (cut_image 2)
 cut-left =
     subst (MayLeave compacting_disk) (sym cut_is_torn)
-    (torn-left (head_sector_of head) (sector_of (settings_record served_config)) (sector_of (kept.TxSa 0 own_sa 13))
+    (torn-left (head_sector_of full_head) (sector_of (settings_record served_config)) (sector_of (kept.TxSa 0 own_sa 13))
     head_whole settings_whole own_whole)
 
 -- ---- call by call

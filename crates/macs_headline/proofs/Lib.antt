@@ -41,6 +41,7 @@ pub mod Built
 pub mod Later
 pub mod ExampleRecords
 pub mod ExampleImages
+pub mod ExampleCompaction
 pub mod ExampleCuts
 pub mod ExampleFrames
 pub mod ExampleStates

@@ -3,8 +3,10 @@
 //! these need some 9 MB of stack.
 
 use super::OWN;
+use crate::run_in_file;
 use macs_aes::Key;
 use macs_config::{Command, Identity};
+use macs_disk::Layout;
 use macs_frame::An;
 use macs_theorem::{CutCommand, TwoNights, run_in_memory};
 use std::alloc::Global;
@@ -51,6 +53,25 @@ fn frames_around_a_power_loss(rt: HostRuntime) {
     assert!(rt; held.is_some());
     assert!(rt; program.first.expect(&rt, "first").get() == 1);
     assert!(rt; program.second.expect(&rt, "second").get() == 1_025);
+}
+
+/// The numbers of the frames before and after the program asks that the power be lost, on a disk in
+/// a file with this layout, whose power stays.
+fn numbers_in_a_file(rt: &impl Abort, alloc: Global, layout: Layout) -> (u32, u32) {
+    let an = an(rt);
+    let mut program = TwoNights::new(identity(rt), install(an), Command::TxUse { an });
+    let held = run_in_file(alloc, layout, &mut program, 20);
+    assert!(rt; held.is_some());
+    let first = program.first.expect(rt, "first").get();
+    let second = program.second.expect(rt, "second").get();
+    (first, second)
+}
+
+/// The endpoint goes on, so the second frame has the next number.
+#[test]
+fn frames_on_disks_in_files(rt: HostRuntime) {
+    assert!(rt; numbers_in_a_file(&rt, rt.alloc(), Layout::Packed) == (1, 2));
+    assert!(rt; numbers_in_a_file(&rt, rt.alloc(), Layout::Spaced) == (1, 2));
 }
 
 /// Power that ends before the command's last device call leaves no association, and power that
