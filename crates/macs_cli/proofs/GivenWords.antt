@@ -1,10 +1,12 @@
 -- Where clap takes words for values that have to be given, each of them is there and passes its parser.
-use Rattle.std.proofs.Common.{◌≡◌, ◌∙◌, ◌++◌, ◌⊎◌, inl, inr, ℕ, zero, suc, Bool, true, false, not, ◌&&◌, ◌||◌, List, []}
+use Rattle.std.proofs.Common.{◌≡◌, ◌∙◌, ◌++◌, ◌⊎◌, inl, inr, ℕ, zero, suc, ◌==◌, Bool, true, false, not, ◌&&◌, ◌||◌}
+use Rattle.std.proofs.Common.{List, []}
 use Rattle.std.proofs.Common.{◌∷◌, length, Option, Some, None, is_some, if◌then◌else◌, refl, ap, sym, subst}
 use Rattle.std.specs.Prelude.{find, fold, nat_le, option_and_then, slice_get, unwrap_or}
 use Rattle.std.specs.List.{AllByRecursion, list_all, list_any}
 use Rattle.std.specs.Option.{option_map_or}
 use Rattle.std.specs.Str.{bytes_eq, chars}
+use Rattle.std.proofs.lemmas.List.{nil_from_length}
 use Rattle.std.proofs.lemmas.List.Folds.{list_all-append}
 use Rattle.std.proofs.lemmas.Slice.Eq.{bytes_eq-Decides}
 use Rattle.clap.specs.Facts.{explicit_source, unwrap_or_range}
@@ -16,14 +18,17 @@ use Rattle.clap.specs.Simple.{Shape}
 use Rattle.clap.specs.Walk.{Held, Names, Outcome, Row, Rule, Step, Text, Waiting, Walk, action_of, after_flag}
 use Rattle.clap.specs.Walk.{after_step, arg_by_id, arg_by_index, arg_by_long, arg_by_short, at_row, bundle, bundle_met}
 use Rattle.clap.specs.Walk.{bundle_step, default_rows, done, finished, first_of, flag_met, has_long, has_row, has_short}
-use Rattle.clap.specs.Walk.{idle, is_pending, long_met, long_or_other, more_values, next, nothing_held, option}
+use Rattle.clap.specs.Walk.{idle, is_empty, is_pending, long_met, long_or_other, more_values, next, nothing_held}
+use Rattle.clap.specs.Walk.{option}
 use Rattle.clap.specs.Walk.{option_met, option_word, plain, plain_word, positional, reacted, reading_by, refused}
 use Rattle.clap.specs.Walk.{rows_after, settled, settled_rows, short_or_plain, subcommand, subcommand_met}
 use Rattle.clap.specs.Walk.{subcommand_or_other, takes_several, takes_values, to_positional, trailing, used, used_as}
 use Rattle.clap.specs.Walk.{used_by_id, value, waits, walk, walk_from, walked, with_default, with_values, without}
 use Rattle.clap.specs.Walk.{word_met}
+use borrow.Author.Tests.{eqb-true}
 use Rattle.clap.specs.declared.builder.action.ArgAction.{ArgAction}
 use Rattle.clap.specs.declared.builder.action.ArgAction.TheVariants.{Set, SetTrue}
+use Rattle.clap.specs.declared.builder.action.ArgAction.TheVariants as action
 use Rattle.clap.specs.declared.parser.matches.ValueSource.{ValueSource}
 use Rattle.clap.specs.declared.parser.matches.ValueSource.TheVariants.{CommandLine, DefaultValue}
 use Rattle.clap.specs.declared.builder.value_parser.Reading.{Reading}
@@ -54,6 +59,105 @@ IsOwn rules a = arg_by_id rules a.id ≡ Some a
 pub record AreValueRules (rules : List Rule) : Type 0 where
   pub each : AllByRecursion IsValueRule rules
   pub own : AllByRecursion (IsOwn rules) rules
+
+-- ---- the same as a test
+
+abbrev sets : ArgAction → Bool
+sets Set = true
+sets SetTrue = true
+sets other = false
+
+-- an argument of that kind, without short flags
+abbrev is_value_rule : Rule → Bool
+is_value_rule a = sets (action_of a)
+    && ((((unwrap_or_range a.range).start_inclusive == 1) || first_passes a a.missing)
+    && ((is_empty a.defaults || first_passes a a.defaults) && (not (is_some a.short) && is_empty a.short_aliases)))
+
+-- no two arguments have the same id
+abbrev have_own_ids : List Rule → Bool
+have_own_ids [] = true
+have_own_ids (a ∷ rest) = not (list_any (λ (b : Rule). bytes_eq a.id b.id) rest) && have_own_ids rest
+
+abbrev pub are_value_rules : List Rule → Bool
+are_value_rules rules = list_all is_value_rule rules && have_own_ids rules
+
+pub not-true : (b : Bool) → not b ≡ true → b ≡ false
+not-true true is = cc
+not-true false is = refl
+
+sets-it : (x : ArgAction) → sets x ≡ true → Sets x
+sets-it action.Set is = inl refl
+sets-it action.SetTrue is = inr refl
+sets-it action.Append is = cc
+sets-it action.SetFalse is = cc
+sets-it action.Count is = cc
+sets-it action.Help is = cc
+sets-it action.HelpShort is = cc
+sets-it action.HelpLong is = cc
+sets-it action.Version is = cc
+
+either : (p q : Bool) → (p || q) ≡ true → (p ≡ true) ⊎ (q ≡ true)
+either true q is = inl refl
+either false q is = inr is
+
+one-or : (n : ℕ) (q : Bool) → ((n == 1) || q) ≡ true → (n ≡ 1) ⊎ (q ≡ true)
+one-or n q is = elim (either (n == 1) q is) [
+  | inl one ↦ inl (eqb-true n 1 one)
+  | inr other ↦ inr other
+]
+
+nil-or : {X : Type 0} (xs : List X) (q : Bool) → (is_empty xs || q) ≡ true → (xs ≡ []) ⊎ (q ≡ true)
+nil-or xs q is = elim (either (is_empty xs) q is) [
+  | inl empty ↦ inl (nil_from_length xs (eqb-true (length xs) 0 empty))
+  | inr other ↦ inr other
+]
+
+short-none : (short : Option ℕ) (more : List ℕ) (x : ℕ) → (not (is_some short) && is_empty more) ≡ true
+    → (option_map_or (λ s. s == x) short false || list_any (λ alias. alias == x) more) ≡ false
+short-none None more x is =
+    let nil : more ≡ [] = nil_from_length more (eqb-true (length more) 0 is) in
+    rw nil refl
+short-none (Some y) more x is = cc
+
+value-rule : (a : Rule) → is_value_rule a ≡ true → IsValueRule a
+value-rule a is =
+    let rest = (both (sets (action_of a)) _ is).1 in
+    let last = (both _ _ (both _ _ rest).1) in record {
+      action = sets-it (action_of a) (both _ _ is).0;
+      missing = one-or (unwrap_or_range a.range).start_inclusive (first_passes a a.missing) (both _ _ rest).0;
+      defaults = nil-or a.defaults (first_passes a a.defaults) last.0;
+      no_short = λ x. short-none a.short a.short_aliases x last.1;
+    }
+
+each-rule : (rules : List Rule) → list_all is_value_rule rules ≡ true → AllByRecursion IsValueRule rules
+each-rule [] is = tt
+each-rule (a ∷ rest) is = (value-rule a (both _ _ is).0, each-rule rest (both _ _ is).1)
+
+none-of-two : (p q : Bool) → (p || q) ≡ false → (p ≡ false) × (q ≡ false)
+none-of-two true q is = cc
+none-of-two false q is = (refl, is)
+
+own-shift : (a : Rule) (rules rest : List Rule) → list_any (λ (b : Rule). bytes_eq a.id b.id) rest ≡ false
+    → AllByRecursion (IsOwn rules) rest
+    → AllByRecursion (IsOwn (a ∷ rules)) rest
+own-shift a rules [] other all = tt
+own-shift a rules (b ∷ rest) other all =
+    let parts = none-of-two (bytes_eq a.id b.id) _ other in
+    (rw parts.0 all.0, own-shift a rules rest parts.1 all.1)
+
+own-each : (rules : List Rule) → have_own_ids rules ≡ true → AllByRecursion (IsOwn rules) rules
+own-each [] is = tt
+own-each (a ∷ rest) is =
+    let same : bytes_eq a.id a.id ≡ true = (bytes_eq-Decides a.id a.id).1 refl in
+    (rw same refl, own-shift a rest rest (not-true _ (both _ _ is).0) (own-each rest (both _ _ is).1))
+
+pub value-rules : (rules : List Rule) → are_value_rules rules ≡ true → AreValueRules rules
+value-rules rules is = record {
+  each = each-rule rules (both _ _ is).0;
+  own = own-each rules (both _ _ is).1;
+}
+
+-- ---- what is found
 
 first-of : {X : Type 0} (y x : X) → Some y ≡ Some x → y ≡ x
 first-of y x same = ap (λ (o : Option _). unwrap_or o y) same

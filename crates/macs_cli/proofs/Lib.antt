@@ -1,7 +1,6 @@
 pub mod Controls
 pub mod GivenWords
 pub mod Paces
-pub mod PlannedWords
 pub mod Questions
 pub mod Subcommands
 pub mod Taken

@@ -1,31 +1,38 @@
 -- The subcommands of the program: how their words are built, and what each of them is given.
-use Rattle.std.proofs.Common.{◌≡◌, ◌∙◌, ◌↔◌, ◌⊎◌, ◌<◌, ◌^◌, ◌-◌, inl, inr, ℕ, Bool, true, false, ◌&&◌, ◌||◌, List, []}
-use Rattle.std.proofs.Common.{◌∷◌, Option, Some, None, codes, refl, ap, ap₂, arith, option_map, subst, sym}
-use Rattle.std.proofs.Common.{if◌then◌else◌}
-use Rattle.std.specs.Prelude.{find, slice_index, unwrap_or}
-use Rattle.std.specs.List.{AllByRecursion, slice_index_or}
+use Rattle.std.proofs.Common.{◌≡◌, ◌∙◌, ◌↔◌, ◌⊎◌, ◌<◌, ◌+◌, ◌-◌, ◌^◌, inl, inr, ℕ, suc, Bool, true, false, not, ◌&&◌}
+use Rattle.std.proofs.Common.{List, []}
+use Rattle.std.proofs.Common.{◌∷◌, length, get_or, drop, Option, Some, None, if◌then◌else◌, codes, refl, ap, ap₂, arith}
+use Rattle.std.proofs.Common.{option_map, subst, sym}
+use Rattle.std.proofs.Math.Seq.{drop-cons}
+use Rattle.std.specs.Prelude.{find, option_and_then, slice_index, unwrap_or}
+use Rattle.std.specs.List.{AllByRecursion, list_all, slice_index_or}
 use Rattle.std.specs.Option.{option_map_or}
 use Rattle.std.specs.Borrow.{Bor}
 use Rattle.std.specs.Str.{bytes_eq}
 use Rattle.std.proofs.lemmas.Slice.Eq.{bytes_eq-Decides}
 use Rattle.std.specs.Str.Parse.{digits_value, without_leading_plus}
-use Rattle.clap.specs.Built.{AddsArg, AddsSubcommand}
+use Rattle.clap.specs.Built.{AddsSubcommand}
+use Rattle.clap.specs.Facts.{parser_of_value}
 use Rattle.clap.specs.Simple.{Shape, app_of_fields, argument_words, built, entered, filled, label_of, names_of, on_top}
 use Rattle.clap.specs.Simple.{rows_at, with_index}
-use Rattle.clap.specs.Takes.{entered_passes, level_passes, takes, value_passes}
+use Rattle.clap.specs.Takes.{entered_passes, level_passes, takes}
 use Rattle.clap.specs.Values.{IsUnsignedIn}
-use Rattle.clap.specs.Walk.{answers_to, first_of, nothing_held, rows_after, stop_after}
+use Rattle.clap.specs.ValueTests.{accepts}
+use Rattle.clap.specs.Walk.{answers_to, arg_by_id, first_of, nothing_held, rows_after, stop_after}
 use Rattle.clap.specs.Words.{App, Row, Rule, Text, app_of, fault_of, is_simple, is_simple_and_free, kind_of, new_app}
-use Rattle.clap.specs.Words.{rule_of, subcommand_of, with_rule, with_subcommand}
-use Rattle.clap.specs.declared.builder.arg.Arg.{Arg}
+use Rattle.clap.specs.Words.{subcommand_of, with_subcommand}
 use Rattle.clap.specs.declared.builder.command.Command.{Command}
 use Rattle.clap.specs.declared.builder.command.Command.TheOpen.{Command-F}
 use Rattle.clap.specs.declared.builder.command.Command.TheViews.{out-Command as fields_of}
+use Rattle.clap.specs.declared.builder.value_parser.ValueParser.{ValueParser}
 use Rattle.clap.specs.declared.builder.value_parser.ValueParser.TheVariants as vp
 use Rattle.clap.specs.declared.error.Error.{Error}
 use Rattle.clap.specs.declared.error.kind.ErrorKind.TheVariants.{OutOfMemory}
 use Rattle.clap.proofs.OnLiterals.{clap_on_literals}
 use Rattle.clap.proofs.ValueTestLemmas.{accepts-Accepts}
+use Rattle.clap.proofs.WalkLemmas.{both}
+use Rattle.macs_commands.specs.declared.links.link.End.{End}
+use Rattle.macs_commands.specs.declared.links.planning.Stage.{Stage}
 use Rattle.macs_cli.specs.declared.words.action.Action.{Action}
 use Rattle.macs_cli.specs.declared.words.action.Action.TheVariants.{Open, OnDisk, OnFrames, Tool}
 use Rattle.macs_cli.specs.declared.words.action.DiskAction.{DiskAction}
@@ -35,22 +42,21 @@ use Rattle.macs_cli.specs.declared.words.action.FrameAction.TheVariants.{Protect
 use Rattle.macs_cli.specs.declared.words.action.ToolAction.{ToolAction}
 use Rattle.macs_cli.specs.declared.words.action.ToolAction.TheVariants.{Ask, Key, Inspect, Check, Plan, Examine, About}
 use Rattle.macs_cli.specs.declared.words.action.Question.{Question}
-use Rattle.macs_cli.specs.declared.words.action.Question.TheVariants as question
 use Rattle.macs_cli.specs.declared.words.pace.Pace.{Pace}
 use Rattle.macs_cli.specs.declared.words.pace.Pace.TheVariants.{Sleepless, Waiting}
 use Rattle.macs_cli.specs.declared.words.pace.Running.{Running}
 use Rattle.macs_cli.specs.declared.words.action.WireEnds.{WireEnds}
 use Rattle.macs_cli.specs.declared.words.action.UsageFault.{UsageFault}
 use Rattle.macs_cli.specs.declared.words.action.UsageFault.TheVariants.{Usage, Memory}
-use Rattle.macs_cli.specs.Words.{FitsNumbers, FitsOnDisk, FitsOnFrames, FitsPace, HasNumber, HasPace, HasQuestion}
-use Rattle.macs_cli.specs.Words.{IsClapCommand, IsFaultOf, IsFlagged, MayHaveRoom, Names, NamesNothing, NamesOnDisk}
-use Rattle.macs_cli.specs.Words.{NamesOnFrames, NamesTool}
-use Rattle.macs_cli.specs.Words.{bare_app, count_rule, flag_rule, is_report, last_rule, macsecd, number_rule}
-use Rattle.macs_cli.specs.Words.{option_rule, room_rule, value_rule, wait_rule}
-use Rattle.macs_cli.proofs.GivenWords.{AreValueRules, IsValueRule, given, passes_where_given}
-use Rattle.macs_cli.proofs.PlannedWords.{plans}
-use Rattle.macs_cli.proofs.Questions.{same-report}
-use Rattle.macs_cli.proofs.Taken.{is_bare_app, taken}
+use Rattle.macs_cli.specs.Words.{FitsNumbers, FitsOnDisk, FitsOnFrames, FitsPace, HasNumber, HasPace, HasPlan}
+use Rattle.macs_cli.specs.Words.{HasQuestion, IsClapCommand, IsFaultOf, IsFlagged, MayHaveRoom, Names, NamesNothing}
+use Rattle.macs_cli.specs.Words.{NamesOnDisk, NamesOnFrames, NamesTool, bare_app, end_named, is_report, macsecd}
+use Rattle.macs_cli.specs.Words.{rule_for, stage_named, with_arguments, with_subcommands}
+use Rattle.macs_cli.specs.declared.words.arguments.Kind.{Kind}
+use Rattle.macs_cli.specs.declared.words.arguments.Kind.TheVariants as kind
+use Rattle.macs_cli.proofs.GivenWords.{AreValueRules, are_value_rules, given, not-true, passes_where_given, value-rules}
+use Rattle.macs_cli.proofs.Questions.{asks, same-report, text_of}
+use Rattle.macs_cli.proofs.Taken.{is_bare_app, taken as taken_where_faultless}
 
 -- ---- the words as they are built
 
@@ -70,25 +76,22 @@ bare_words a b d e f is one two three four =
       disable_version_flag = true;
     })) is
 
--- one value more
-pub one_value : (old new : Command) (a : Arg) (app : App) (r : Rule) → IsClapCommand old app → rule_of a ≡ r
-    → a.global ≡ false → AddsArg old a new
-    → IsClapCommand new (with_rule app r)
-one_value old new a app r its is local added = record {
-  app_is = added.shape local ∙ ap₂ with_rule its.app_is is;
-  local = added.globals ∙ ap (λ (b : Bool). b || a.global) its.local ∙ ap (λ (b : Bool). false || b) local;
-}
-
--- a new subcommand
-pub no_values : (new : Command) (name : Text) → app_of new ≡ new_app name → (fields_of new).has_globals ≡ false
-    → IsClapCommand new (new_app name)
-no_values new name is local = record { app_is = is; local = local }
-
 -- one subcommand more
-pub one_more : (old sub new : Command) (a b : App) → app_of old ≡ a → IsClapCommand sub b → AddsSubcommand old sub new
-    → app_of new ≡ with_subcommand a b.top
-one_more old sub new a b known its added =
-    added.shape its.local ∙ ap₂ with_subcommand known (ap (λ (x : App). x.top) its.app_is)
+pub one-more : (old sub new : Command) (subcommands : List (Bor Text × Bor (List (Bor Text × Kind)))) (i : ℕ)
+    (d : Bor Text × Bor (List (Bor Text × Kind))) (all : App) → i < length subcommands
+    → IsClapCommand sub
+    (with_arguments (new_app (get_or subcommands i d).0.now) (get_or subcommands i d).1.now)
+    → AddsSubcommand old sub new → with_subcommands (app_of old) (drop i subcommands) ≡ all
+    → with_subcommands (app_of new) (drop (i + 1) subcommands) ≡ all
+one-more old sub new subcommands i d all within its added left =
+    let next : i + 1 ≡ suc i = omega arith in
+    let its_top = (with_arguments (new_app (get_or subcommands i d).0.now) (get_or subcommands i d).1.now).top in
+    ap (λ (a : App). with_subcommands a (drop (i + 1) subcommands))
+    (added.shape its.local ∙ ap (λ (a : App). with_subcommand (app_of old) a.top) its.app_is)
+    ∙ ap (λ (k : ℕ). with_subcommands (with_subcommand (app_of old) its_top) (drop k subcommands)) next
+    ∙ ap (λ (l : List (Bor Text × Bor (List (Bor Text × Kind)))). with_subcommands (app_of old) l)
+    (sym (drop-cons subcommands i d within))
+    ∙ left
 
 -- ---- what `format` is given
 
@@ -128,11 +131,36 @@ question_of rows (Plan file end stage) named = absurd (omega (arith, ap (λ (t :
 question_of rows (Examine disk is_json) named = absurd (omega (arith, ap (λ (t : Text). slice_index t 0) named.0))
 question_of rows About named = absurd (omega (arith, ap (λ (t : Text). slice_index t 1) named))
 
--- ---- what each subcommand is given
+-- ---- what `plan` is given
 
--- a text that is borrowed
-abbrev text_of : Text → Bor Text
-text_of text = record { ref_ptr = (0, 0); now = text }
+-- its end and its stage are there
+pub plan_of : (rows : List Row) (action : ToolAction) → NamesTool (codes "plan", rows) action
+    → (end : End) × (which : Stage) × HasPlan rows end which
+plan_of rows (Ask path asked is_json) named = absurd (omega (arith, ap (λ (t : Text). slice_index t 0) named.0))
+plan_of rows (Key is_long) named = absurd (omega (arith, ap (λ (t : Text). slice_index t 0) named.0))
+plan_of rows (Inspect input) named = absurd (omega (arith, ap (λ (t : Text). slice_index t 0) named.0))
+plan_of rows (Check file disk) named = absurd (omega (arith, ap (λ (t : Text). slice_index t 0) named.0))
+plan_of rows (Plan file end which) named = (end, which, named.2)
+plan_of rows (Examine disk is_json) named = absurd (omega (arith, ap (λ (t : Text). slice_index t 0) named.0))
+plan_of rows About named = absurd (omega (arith, ap (λ (t : Text). slice_index t 0) named))
+
+-- whether its words name both
+plans : (rows : List Row)
+    → ((end : End) × (which : Stage) × HasPlan rows end which)
+    ⊎ ((end : End) (which : Stage) → ¬ HasPlan rows end which)
+plans rows =
+    go (option_and_then end_named (first_of (codes "END") rows))
+    (option_and_then stage_named (first_of (codes "STAGE") rows)) refl refl
+  where
+    go : (said : Option End) (also : Option Stage) → option_and_then end_named (first_of (codes "END") rows) ≡ said
+        → option_and_then stage_named (first_of (codes "STAGE") rows) ≡ also
+        → ((end : End) × (which : Stage) × HasPlan rows end which)
+        ⊎ ((end : End) (which : Stage) → ¬ HasPlan rows end which)
+    go (Some end) (Some which) one two = inl (end, which, (one, two))
+    go None also one two = inr (λ end which has. let e = sym one ∙ has.0 in cc)
+    go (Some end) None one two = inr (λ other which has. let e = sym two ∙ has.1 in cc)
+
+-- ---- what each subcommand is given
 
 texts-back : (text : Option Text) → option_map (λ (t : Bor Text). t.now) (option_map text_of text) ≡ text
 texts-back None = refl
@@ -146,34 +174,39 @@ shape_at i = slice_index_or (built macsecd).subs i (built macsecd).top
 abbrev pub IsRead : Option (Text × List Row) → Type 0
 IsRead found = NamesNothing found ⊎ ((action : Action) × Names found action × FitsNumbers action)
 
--- where the subcommand takes the words, it is read
+-- clap takes these words for the subcommand
+record IsTaken (s : Shape) (words : List Text) : Type 0 where
+  rules : AreValueRules s.rules
+  negates : s.subcommand_negates_reqs ≡ false
+  passes : level_passes s [] nothing_held words false ≡ true
+
+-- then it is read
 abbrev IsNamed : Shape → Type 0
-IsNamed s = (words : List Text) → level_passes s [] nothing_held words false ≡ true → IsRead (Some (rows_at s words))
+IsNamed s = (words : List Text) → IsTaken s words → IsRead (Some (rows_at s words))
 
-value-is : (place : ℕ) (name : Text) → IsValueRule (with_index place (filled (value_rule name)))
-value-is place name = record { action = inl refl; missing = inl refl; defaults = inl refl; no_short = λ x. refl }
+-- a required value, and a required number, at a place
+abbrev value_at : ℕ → Text → Rule
+value_at place name = with_index place (filled (rule_for kind.Value name))
 
-number-is : (place : ℕ) (name : Text) → IsValueRule (with_index place (filled (number_rule name)))
-number-is place name = record { action = inl refl; missing = inl refl; defaults = inl refl; no_short = λ x. refl }
+abbrev number_at : ℕ → Text → Rule
+number_at place name = with_index place (filled (rule_for kind.Number name))
 
-count-is : (name : Text) → IsValueRule (filled (count_rule name))
-count-is name = record { action = inl refl; missing = inl refl; defaults = inl refl; no_short = λ x. refl }
+-- what is required is there
+value : (s : Shape) (words : List Text) (a : Rule) → IsTaken s words → arg_by_id s.rules a.id ≡ Some a
+    → a.required ≡ true
+    → (text : Text) × (first_of a.id (rows_after s.rules [] words) ≡ Some text)
+value s words a taken own required =
+    let it = given s words a taken.rules taken.negates taken.passes own required in (it.0, it.1)
 
-wait-is : (name : Text) → IsValueRule (filled (wait_rule name))
-wait-is name = record { action = inl refl; missing = inl refl; defaults = inl refl; no_short = λ x. refl }
-
-room-is : (name : Text) → IsValueRule (filled (room_rule name))
-room-is name = record { action = inl refl; missing = inl refl; defaults = inl refl; no_short = λ x. refl }
-
-last-is : (place : ℕ) (name : Text) → IsValueRule (with_index place (filled (last_rule name)))
-last-is place name = record { action = inl refl; missing = inl refl; defaults = inl refl; no_short = λ x. refl }
-
-option-is : (name : Text) → IsValueRule (filled (option_rule name))
-option-is name = record { action = inl refl; missing = inl refl; defaults = inl refl; no_short = λ x. refl }
-
-flag-is : (name : Text) → IsValueRule (filled (flag_rule name))
-unfolding clap_on_literals
-flag-is name = record { action = inr refl; missing = inr refl; defaults = inr refl; no_short = λ x. refl }
+-- a value of a number that is there is in its range
+in-range : (s : Shape) (words : List Text) (a : Rule) (least most : ℕ) → IsTaken s words
+    → arg_by_id s.rules a.id ≡ Some a → a.parser ≡ Some (vp.Unsigned least most) → a.ignore_case ≡ false
+    → (text : Text) → first_of a.id (rows_after s.rules [] words) ≡ Some text → IsUnsignedIn least most text
+in-range s words a least most taken own parser cased text there =
+    let passes : accepts a.ignore_case (parser_of_value a.parser) text ≡ true =
+    passes_where_given s words a text taken.rules taken.passes own there in
+    accepts-Accepts false (vp.Unsigned least most) text
+    (ap₂ (λ (b : Bool) (o : Option ValueParser). accepts b (parser_of_value o) text) (sym cased) (sym parser) ∙ passes)
 
 -- whether an option without a value is used can be seen
 abbrev is_flagged : List Row → Text → Bool
@@ -190,49 +223,18 @@ flagged rows name = go (first_of name rows)
       λ is. (bytes_eq-Decides text (codes "true")).1 (ap (λ (o : Option Text). unwrap_or o text) is),
     )
 
--- a value that passed as a number is one
-number-read : (place : ℕ) (name : Text) (text : Text)
-    → value_passes (with_index place (filled (number_rule name))) text ≡ true
-    → IsUnsignedIn 0 (2 ^ 32 - 1) text
-number-read place name text passes = accepts-Accepts false (vp.Unsigned 0 (2 ^ 32 - 1)) text passes
-
-count-read : (name : Text) (text : Text) → value_passes (filled (count_rule name)) text ≡ true
-    → IsUnsignedIn 0 (2 ^ 64 - 1) text
-count-read name text passes = accepts-Accepts false (vp.Unsigned 0 (2 ^ 64 - 1)) text passes
-
-wait-read : (name : Text) (text : Text) → value_passes (filled (wait_rule name)) text ≡ true → IsUnsignedIn 1 60000 text
-wait-read name text passes = accepts-Accepts false (vp.Unsigned 1 60000) text passes
-
-room-read : (name : Text) (text : Text) → value_passes (filled (room_rule name)) text ≡ true
-    → IsUnsignedIn 1 1073741823 text
-room-read name text passes = accepts-Accepts false (vp.Unsigned 1 1073741823) text passes
-
 open-named : IsNamed (shape_at 0)
-open-named words passes = inr (Open, refl, tt)
+open-named words taken = inr (Open, refl, tt)
 
 format-named : IsNamed (shape_at 1)
 unfolding clap_on_literals
-format-named words passes =
-    let rules : AreValueRules (shape_at 1).rules = record {
-      each = (
-        value-is 1 (codes "DISK"),
-        (
-          value-is 2 (codes "SCI"),
-          (
-            number-is 3 (codes "TX"),
-            (number-is 4 (codes "RX"), (option-is (codes "block"), (flag-is (codes "over"), tt))),
-          ),
-        ),
-      );
-      own = (refl, (refl, (refl, (refl, (refl, (refl, tt))))));
-    } in
-    let disk =
-    given (shape_at 1) words (with_index 1 (filled (value_rule (codes "DISK")))) rules refl passes refl refl in
-    let sci = given (shape_at 1) words (with_index 2 (filled (value_rule (codes "SCI")))) rules refl passes refl refl in
-    let tx = given (shape_at 1) words (with_index 3 (filled (number_rule (codes "TX")))) rules refl passes refl refl in
-    let rx = given (shape_at 1) words (with_index 4 (filled (number_rule (codes "RX")))) rules refl passes refl refl in
-    let tx_in = number-read 3 (codes "TX") tx.0 tx.2 in
-    let rx_in = number-read 4 (codes "RX") rx.0 rx.2 in
+format-named words taken =
+    let disk = value (shape_at 1) words (value_at 1 (codes "DISK")) taken refl refl in
+    let sci = value (shape_at 1) words (value_at 2 (codes "SCI")) taken refl refl in
+    let tx = value (shape_at 1) words (number_at 3 (codes "TX")) taken refl refl in
+    let rx = value (shape_at 1) words (number_at 4 (codes "RX")) taken refl refl in
+    let tx_in = in-range (shape_at 1) words (number_at 3 (codes "TX")) 0 (2 ^ 32 - 1) taken refl refl refl tx.0 tx.1 in
+    let rx_in = in-range (shape_at 1) words (number_at 4 (codes "RX")) 0 (2 ^ 32 - 1) taken refl refl refl rx.0 rx.1 in
     let tx_block = digits_value 10 (without_leading_plus tx.0) in
     let rx_block = digits_value 10 (without_leading_plus rx.0) in
     let tx_fits : tx_block < 2 ^ 32 = omega (arith, tx_in.3) in
@@ -255,44 +257,23 @@ format-named words passes =
 
 apply-named : IsNamed (shape_at 2)
 unfolding clap_on_literals
-apply-named words passes =
-    let rules : AreValueRules (shape_at 2).rules = record {
-      each = (value-is 1 (codes "DISK"), (value-is 2 (codes "FILE"), tt));
-      own = (refl, (refl, tt));
-    } in
-    let disk =
-    given (shape_at 2) words (with_index 1 (filled (value_rule (codes "DISK")))) rules refl passes refl refl in
-    let file =
-    given (shape_at 2) words (with_index 2 (filled (value_rule (codes "FILE")))) rules refl passes refl refl in
+apply-named words taken =
+    let disk = value (shape_at 2) words (value_at 1 (codes "DISK")) taken refl refl in
+    let file = value (shape_at 2) words (value_at 2 (codes "FILE")) taken refl refl in
     inr (OnDisk (Apply (text_of disk.0) (text_of file.0)), (refl, disk.1, file.1), tt)
 
 show-named : IsNamed (shape_at 3)
 unfolding clap_on_literals
-show-named words passes =
-    let rules : AreValueRules (shape_at 3).rules = record {
-      each = (value-is 1 (codes "DISK"), tt);
-      own = (refl, tt);
-    } in
-    let disk =
-    given (shape_at 3) words (with_index 1 (filled (value_rule (codes "DISK")))) rules refl passes refl refl in
+show-named words taken =
+    let disk = value (shape_at 3) words (value_at 1 (codes "DISK")) taken refl refl in
     inr (OnDisk (Show (text_of disk.0)), (refl, disk.1), tt)
 
 protect-named : IsNamed (shape_at 4)
 unfolding clap_on_literals
-protect-named words passes =
-    let rules : AreValueRules (shape_at 4).rules = record {
-      each = (
-        value-is 1 (codes "DISK"),
-        (value-is 2 (codes "INPUT"), (value-is 3 (codes "OUTPUT"), (flag-is (codes "all"), tt))),
-      );
-      own = (refl, (refl, (refl, (refl, tt))));
-    } in
-    let disk =
-    given (shape_at 4) words (with_index 1 (filled (value_rule (codes "DISK")))) rules refl passes refl refl in
-    let input =
-    given (shape_at 4) words (with_index 2 (filled (value_rule (codes "INPUT")))) rules refl passes refl refl in
-    let output =
-    given (shape_at 4) words (with_index 3 (filled (value_rule (codes "OUTPUT")))) rules refl passes refl refl in
+protect-named words taken =
+    let disk = value (shape_at 4) words (value_at 1 (codes "DISK")) taken refl refl in
+    let input = value (shape_at 4) words (value_at 2 (codes "INPUT")) taken refl refl in
+    let output = value (shape_at 4) words (value_at 3 (codes "OUTPUT")) taken refl refl in
     let rows = rows_after (shape_at 4).rules [] words in
     inr (
       OnFrames (Protect (text_of disk.0) (text_of input.0) (text_of output.0) (is_flagged rows (codes "all"))),
@@ -302,23 +283,10 @@ protect-named words passes =
 
 validate-named : IsNamed (shape_at 5)
 unfolding clap_on_literals
-validate-named words passes =
-    let rules : AreValueRules (shape_at 5).rules = record {
-      each = (
-        value-is 1 (codes "DISK"),
-        (
-          value-is 2 (codes "INPUT"),
-          (value-is 3 (codes "OUTPUT"), (flag-is (codes "all"), (flag-is (codes "each"), tt))),
-        ),
-      );
-      own = (refl, (refl, (refl, (refl, (refl, tt)))));
-    } in
-    let disk =
-    given (shape_at 5) words (with_index 1 (filled (value_rule (codes "DISK")))) rules refl passes refl refl in
-    let input =
-    given (shape_at 5) words (with_index 2 (filled (value_rule (codes "INPUT")))) rules refl passes refl refl in
-    let output =
-    given (shape_at 5) words (with_index 3 (filled (value_rule (codes "OUTPUT")))) rules refl passes refl refl in
+validate-named words taken =
+    let disk = value (shape_at 5) words (value_at 1 (codes "DISK")) taken refl refl in
+    let input = value (shape_at 5) words (value_at 2 (codes "INPUT")) taken refl refl in
+    let output = value (shape_at 5) words (value_at 3 (codes "OUTPUT")) taken refl refl in
     let rows = rows_after (shape_at 5).rules [] words in
     inr (
       OnFrames (Validate (text_of disk.0) (text_of input.0) (text_of output.0) (is_flagged rows (codes "all"))
@@ -375,52 +343,18 @@ roomed rows name read = go (first_of name rows) refl
 
 relay-named : IsNamed (shape_at 6)
 unfolding clap_on_literals
-relay-named words passes =
-    let rules : AreValueRules (shape_at 6).rules = record {
-      each = (
-        value-is 1 (codes "DISK"),
-        (
-          value-is 2 (codes "OWN1"),
-          (
-            value-is 3 (codes "PEER1"),
-            (
-              value-is 4 (codes "OWN2"),
-              (
-                value-is 5 (codes "PEER2"),
-                (
-                  count-is (codes "turns"),
-                  (
-                    wait-is (codes "wait"),
-                    (room-is (codes "buffer"), (option-is (codes "control"), (option-is (codes "metrics"), tt))),
-                  ),
-                ),
-              ),
-            ),
-          ),
-        ),
-      );
-      own = (refl, (refl, (refl, (refl, (refl, (refl, (refl, (refl, (refl, (refl, tt))))))))));
-    } in
-    let disk =
-    given (shape_at 6) words (with_index 1 (filled (value_rule (codes "DISK")))) rules refl passes refl refl in
-    let own_1 =
-    given (shape_at 6) words (with_index 2 (filled (value_rule (codes "OWN1")))) rules refl passes refl refl in
-    let peer_1 =
-    given (shape_at 6) words (with_index 3 (filled (value_rule (codes "PEER1")))) rules refl passes refl refl in
-    let own_2 =
-    given (shape_at 6) words (with_index 4 (filled (value_rule (codes "OWN2")))) rules refl passes refl refl in
-    let peer_2 =
-    given (shape_at 6) words (with_index 5 (filled (value_rule (codes "PEER2")))) rules refl passes refl refl in
+relay-named words taken =
+    let disk = value (shape_at 6) words (value_at 1 (codes "DISK")) taken refl refl in
+    let own_1 = value (shape_at 6) words (value_at 2 (codes "OWN1")) taken refl refl in
+    let peer_1 = value (shape_at 6) words (value_at 3 (codes "PEER1")) taken refl refl in
+    let own_2 = value (shape_at 6) words (value_at 4 (codes "OWN2")) taken refl refl in
+    let peer_2 = value (shape_at 6) words (value_at 5 (codes "PEER2")) taken refl refl in
     let rows = rows_after (shape_at 6).rules [] words in
-    let count : (text : Text) → first_of (codes "turns") rows ≡ Some text → IsUnsignedIn 0 (2 ^ 64 - 1) text =
-    λ text there. count-read (codes "turns") text
-    (passes_where_given (shape_at 6) words (filled (count_rule (codes "turns"))) text rules passes refl there) in
-    let limit : (text : Text) → first_of (codes "wait") rows ≡ Some text → IsUnsignedIn 1 60000 text =
-    λ text there. wait-read (codes "wait") text
-    (passes_where_given (shape_at 6) words (filled (wait_rule (codes "wait"))) text rules passes refl there) in
-    let octets : (text : Text) → first_of (codes "buffer") rows ≡ Some text → IsUnsignedIn 1 1073741823 text =
-    λ text there. room-read (codes "buffer") text
-    (passes_where_given (shape_at 6) words (filled (room_rule (codes "buffer"))) text rules passes refl there) in
+    let count = in-range (shape_at 6) words (filled (rule_for kind.Count (codes "turns"))) 0 (2 ^ 64 - 1) taken refl
+    refl refl in
+    let limit = in-range (shape_at 6) words (filled (rule_for kind.Wait (codes "wait"))) 1 60000 taken refl refl refl in
+    let octets =
+    in-range (shape_at 6) words (filled (rule_for kind.Room (codes "buffer"))) 1 1073741823 taken refl refl refl in
     let room = roomed rows (codes "buffer") octets in
     elim (paced rows count limit) [
       | inl none ↦ inl (inl (refl, none.0, none.1))
@@ -447,77 +381,6 @@ relay-named words passes =
         fits,
       )
     ]
-
--- whether the words of `ask` ask something
-asks : (rows : List Row) (word : Text) → first_of (codes "WORD") rows ≡ Some word
-    → ((asked : Question) × HasQuestion rows asked) ⊎ ((asked : Question) → ¬ HasQuestion rows asked)
-asks rows word there = go (first_of (codes "FILE") rows) refl
-  where
-    same : (text : Text) → first_of (codes "WORD") rows ≡ Some text → word ≡ text
-    same text has = ap (λ (o : Option Text). unwrap_or o word) (sym there ∙ has)
-
-    is : (text : Text) → bytes_eq word text ≡ true → first_of (codes "WORD") rows ≡ Some text
-    is text equal = there ∙ ap (λ (t : Text). Some t) ((bytes_eq-Decides word text).0 equal)
-
-    differs : (text : Text) → bytes_eq word text ≡ false → first_of (codes "WORD") rows ≡ Some text → ⊥
-    differs text other has = let e = (bytes_eq-Decides word text).1 (same text has) in cc
-
-    none-with : (file : Text) → first_of (codes "FILE") rows ≡ Some file → bytes_eq word (codes "apply") ≡ false
-        → (asked : Question) → HasQuestion rows asked → ⊥
-    none-with file given other question.Show has = let e = sym given ∙ has.1 in cc
-    none-with file given other question.Counters has = let e = sym given ∙ has.1 in cc
-    none-with file given other question.Keys has = let e = sym given ∙ has.1 in cc
-    none-with file given other question.Traffic has = let e = sym given ∙ has.1 in cc
-    none-with file given other question.About has = let e = sym given ∙ has.1 in cc
-    none-with file given other question.Stop has = let e = sym given ∙ has.1 in cc
-    none-with file given other (question.Apply name) has = differs (codes "apply") other has.0
-
-    none-alone : first_of (codes "FILE") rows ≡ None → bytes_eq word (codes "show") ≡ false
-        → bytes_eq word (codes "counters") ≡ false → bytes_eq word (codes "keys") ≡ false
-        → bytes_eq word (codes "traffic") ≡ false → bytes_eq word (codes "about") ≡ false
-        → bytes_eq word (codes "stop") ≡ false → (asked : Question) → HasQuestion rows asked → ⊥
-    none-alone none shows counts keys carries abouts stops question.Show has = differs (codes "show") shows has.0
-    none-alone none shows counts keys carries abouts stops question.Counters has =
-        differs (codes "counters") counts has.0
-    none-alone none shows counts keys carries abouts stops question.Keys has = differs (codes "keys") keys has.0
-    none-alone none shows counts keys carries abouts stops question.Traffic has =
-        differs (codes "traffic") carries has.0
-    none-alone none shows counts keys carries abouts stops question.About has = differs (codes "about") abouts has.0
-    none-alone none shows counts keys carries abouts stops question.Stop has = differs (codes "stop") stops has.0
-    none-alone none shows counts keys carries abouts stops (question.Apply name) has = let e = sym none ∙ has.1 in cc
-
-    with-file : (file : Text) → first_of (codes "FILE") rows ≡ Some file → (applies : Bool)
-        → bytes_eq word (codes "apply") ≡ applies
-        → ((asked : Question) × HasQuestion rows asked) ⊎ ((asked : Question) → ¬ HasQuestion rows asked)
-    with-file file given true equal = inl (question.Apply (text_of file), (is (codes "apply") equal, given))
-    with-file file given false other = inr (none-with file given other)
-
-    alone : first_of (codes "FILE") rows ≡ None → (shows counts keys carries abouts stops : Bool)
-        → bytes_eq word (codes "show") ≡ shows → bytes_eq word (codes "counters") ≡ counts
-        → bytes_eq word (codes "keys") ≡ keys → bytes_eq word (codes "traffic") ≡ carries
-        → bytes_eq word (codes "about") ≡ abouts → bytes_eq word (codes "stop") ≡ stops
-        → ((asked : Question) × HasQuestion rows asked) ⊎ ((asked : Question) → ¬ HasQuestion rows asked)
-    alone none true counts keys carries abouts stops equal second third fourth fifth sixth =
-        inl (question.Show, (is (codes "show") equal, none))
-    alone none false true keys carries abouts stops first equal third fourth fifth sixth =
-        inl (question.Counters, (is (codes "counters") equal, none))
-    alone none false false true carries abouts stops first second equal fourth fifth sixth =
-        inl (question.Keys, (is (codes "keys") equal, none))
-    alone none false false false true abouts stops first second third equal fifth sixth =
-        inl (question.Traffic, (is (codes "traffic") equal, none))
-    alone none false false false false true stops first second third fourth equal sixth =
-        inl (question.About, (is (codes "about") equal, none))
-    alone none false false false false false true first second third fourth fifth equal =
-        inl (question.Stop, (is (codes "stop") equal, none))
-    alone none false false false false false false first second third fourth fifth sixth =
-        inr (none-alone none first second third fourth fifth sixth)
-
-    go : (found : Option Text) → first_of (codes "FILE") rows ≡ found
-        → ((asked : Question) × HasQuestion rows asked) ⊎ ((asked : Question) → ¬ HasQuestion rows asked)
-    go None none = alone none (bytes_eq word (codes "show")) (bytes_eq word (codes "counters"))
-        (bytes_eq word (codes "keys")) (bytes_eq word (codes "traffic")) (bytes_eq word (codes "about"))
-        (bytes_eq word (codes "stop")) refl refl refl refl refl refl
-    go (Some file) given = with-file file given (bytes_eq word (codes "apply")) refl
 
 -- what is asked, and in which form its answer is wanted
 form : (rows : List Row) (path : Text) → first_of (codes "PATH") rows ≡ Some path → (asked : Question)
@@ -556,18 +419,9 @@ form rows path there asked has = go (is_flagged rows (codes "json")) (is_report 
 
 ask-named : IsNamed (shape_at 7)
 unfolding clap_on_literals
-ask-named words passes =
-    let rules : AreValueRules (shape_at 7).rules = record {
-      each = (
-        value-is 1 (codes "PATH"),
-        (value-is 2 (codes "WORD"), (last-is 3 (codes "FILE"), (flag-is (codes "json"), tt))),
-      );
-      own = (refl, (refl, (refl, (refl, tt))));
-    } in
-    let path =
-    given (shape_at 7) words (with_index 1 (filled (value_rule (codes "PATH")))) rules refl passes refl refl in
-    let word =
-    given (shape_at 7) words (with_index 2 (filled (value_rule (codes "WORD")))) rules refl passes refl refl in
+ask-named words taken =
+    let path = value (shape_at 7) words (value_at 1 (codes "PATH")) taken refl refl in
+    let word = value (shape_at 7) words (value_at 2 (codes "WORD")) taken refl refl in
     let rows = rows_after (shape_at 7).rules [] words in
     elim (asks rows word.0 word.1) [
       | inl (asked, has) ↦ form rows path.0 path.1 asked has
@@ -576,30 +430,20 @@ ask-named words passes =
 
 key-named : IsNamed (shape_at 8)
 unfolding clap_on_literals
-key-named words passes =
+key-named words taken =
     let rows = rows_after (shape_at 8).rules [] words in
     inr (Tool (Key (is_flagged rows (codes "long"))), (refl, flagged rows (codes "long")), tt)
 
 inspect-named : IsNamed (shape_at 9)
 unfolding clap_on_literals
-inspect-named words passes =
-    let rules : AreValueRules (shape_at 9).rules = record {
-      each = (value-is 1 (codes "INPUT"), tt);
-      own = (refl, tt);
-    } in
-    let input =
-    given (shape_at 9) words (with_index 1 (filled (value_rule (codes "INPUT")))) rules refl passes refl refl in
+inspect-named words taken =
+    let input = value (shape_at 9) words (value_at 1 (codes "INPUT")) taken refl refl in
     inr (Tool (Inspect (text_of input.0)), (refl, input.1), tt)
 
 check-named : IsNamed (shape_at 10)
 unfolding clap_on_literals
-check-named words passes =
-    let rules : AreValueRules (shape_at 10).rules = record {
-      each = (value-is 1 (codes "FILE"), (last-is 2 (codes "DISK"), tt));
-      own = (refl, (refl, tt));
-    } in
-    let file =
-    given (shape_at 10) words (with_index 1 (filled (value_rule (codes "FILE")))) rules refl passes refl refl in
+check-named words taken =
+    let file = value (shape_at 10) words (value_at 1 (codes "FILE")) taken refl refl in
     let rows = rows_after (shape_at 10).rules [] words in inr (
       Tool (Check (text_of file.0) (option_map text_of (first_of (codes "DISK") rows))),
       (refl, file.1, texts-back (first_of (codes "DISK") rows)),
@@ -608,32 +452,18 @@ check-named words passes =
 
 plan-named : IsNamed (shape_at 11)
 unfolding clap_on_literals
-plan-named words passes =
-    let rules : AreValueRules (shape_at 11).rules = record {
-      each = (value-is 1 (codes "FILE"), (value-is 2 (codes "END"), (value-is 3 (codes "STAGE"), tt)));
-      own = (refl, (refl, (refl, tt)));
-    } in
-    let file =
-    given (shape_at 11) words (with_index 1 (filled (value_rule (codes "FILE")))) rules refl passes refl refl in
-    let end =
-    given (shape_at 11) words (with_index 2 (filled (value_rule (codes "END")))) rules refl passes refl refl in
-    let stage =
-    given (shape_at 11) words (with_index 3 (filled (value_rule (codes "STAGE")))) rules refl passes refl refl in
+plan-named words taken =
+    let file = value (shape_at 11) words (value_at 1 (codes "FILE")) taken refl refl in
     let rows = rows_after (shape_at 11).rules [] words in
-    elim (plans rows end.0 stage.0 end.1 stage.1) [
-      | inl (side, stage_is, has) ↦ inr (Tool (Plan (text_of file.0) side stage_is), (refl, file.1, has), tt)
+    elim (plans rows) [
+      | inl (end, which, has) ↦ inr (Tool (Plan (text_of file.0) end which), (refl, file.1, has), tt)
       | inr none ↦ inl (inr (inr (inr (refl, none))))
     ]
 
 examine-named : IsNamed (shape_at 12)
 unfolding clap_on_literals
-examine-named words passes =
-    let rules : AreValueRules (shape_at 12).rules = record {
-      each = (value-is 1 (codes "DISK"), (flag-is (codes "json"), tt));
-      own = (refl, (refl, tt));
-    } in
-    let disk =
-    given (shape_at 12) words (with_index 1 (filled (value_rule (codes "DISK")))) rules refl passes refl refl in
+examine-named words taken =
+    let disk = value (shape_at 12) words (value_at 1 (codes "DISK")) taken refl refl in
     let rows = rows_after (shape_at 12).rules [] words in inr (
       Tool (Examine (text_of disk.0) (is_flagged rows (codes "json"))),
       (refl, disk.1, flagged rows (codes "json")),
@@ -641,17 +471,30 @@ examine-named words passes =
     )
 
 about-named : IsNamed (shape_at 13)
-about-named words passes = inr (Tool About, refl, tt)
+about-named words taken = inr (Tool About, refl, tt)
 
 -- ---- the words of a whole command line
 
+-- each of its values is one that is read, no two have one name, and subcommands take nothing from it
+abbrev has_value_rules : Shape → Bool
+has_value_rules s = are_value_rules s.rules && not s.subcommand_negates_reqs
+
+is-taken : (s : Shape) (words : List Text) → has_value_rules s ≡ true
+    → level_passes s [] nothing_held words false ≡ true → IsTaken s words
+is-taken s words fit passes = record {
+  rules = value-rules s.rules (both _ _ fit).0;
+  negates = not-true s.subcommand_negates_reqs (both _ _ fit).1;
+  passes = passes;
+}
+
 -- the first of the subcommands that answers to a name
 named-first : (shapes : List Shape) (answers : Shape → Bool) (words : List Text) → AllByRecursion IsNamed shapes
+    → list_all has_value_rules shapes ≡ true
     → option_map_or (λ s. level_passes s [] nothing_held words false) (find answers shapes) true ≡ true
     → IsRead (option_map (λ s. rows_at s words) (find answers shapes))
-named-first [] answers words all passes = inr (Open, refl, tt)
-named-first (s ∷ rest) answers words all passes =
-    go (answers s) passes (λ later. named-first rest answers words all.1 later)
+named-first [] answers words all fit passes = inr (Open, refl, tt)
+named-first (s ∷ rest) answers words all fit passes =
+    go (answers s) passes (λ later. named-first rest answers words all.1 (both _ _ fit).1 later)
   where
     go : (is : Bool)
         → option_map_or (λ s. level_passes s [] nothing_held words false)
@@ -659,14 +502,14 @@ named-first (s ∷ rest) answers words all passes =
         → (option_map_or (λ s. level_passes s [] nothing_held words false) (find answers rest) true ≡ true
         → IsRead (option_map (λ s. rows_at s words) (find answers rest)))
         → IsRead (option_map (λ s. rows_at s words) (if is then Some s else find answers rest))
-    go true passes below = all.0 words passes
+    go true passes below = all.0 words (is-taken s words (both _ _ fit).0 passes)
     go false passes below = below passes
 
 named-entered : (a : App) (stop : Option (Text × List Text)) → AllByRecursion IsNamed a.subs
-    → entered_passes a stop ≡ true
+    → list_all has_value_rules a.subs ≡ true → entered_passes a stop ≡ true
     → IsRead (entered a stop)
-named-entered a None all passes = inr (Open, refl, tt)
-named-entered a (Some p) all passes = named-first a.subs (λ s. answers_to p.0 (label_of s)) p.1 all passes
+named-entered a None all fit passes = inr (Open, refl, tt)
+named-entered a (Some p) all fit passes = named-first a.subs (λ s. answers_to p.0 (label_of s)) p.1 all fit passes
 
 first-of-three : (a b d : Bool) → (a && (b && d)) ≡ true → b ≡ true
 first-of-three true true d is = refl
@@ -687,11 +530,16 @@ all-named = (
   ),
 )
 
+value-rules-of-all : list_all has_value_rules (built macsecd).subs ≡ true
+unfolding clap_on_literals
+value-rules-of-all = refl
+
 -- each command line that clap takes is read
 pub named : (words : List Text) → takes macsecd words ≡ true → IsRead (subcommand_of macsecd words)
 named words taken =
     named-entered (built macsecd)
     (stop_after (built macsecd).top.rules (names_of (built macsecd)) (argument_words macsecd words)) all-named
+    value-rules-of-all
     (first-of-three (is_simple macsecd) _ _ taken)
 
 -- ---- the commands are ones of which clap reports all
@@ -707,7 +555,7 @@ bare = refl
 
 -- words in which it finds no fault are taken
 pub taken_without_fault : (words : List Text) → fault_of macsecd words ≡ [] → takes macsecd words ≡ true
-taken_without_fault words faultless = taken macsecd words simple bare faultless
+taken_without_fault words faultless = taken_where_faultless macsecd words simple bare faultless
 
 -- a fault for want of memory
 pub wants_memory : (error : Error) (fault : UsageFault) → IsFaultOf error fault → kind_of error ≡ OutOfMemory

@@ -6,30 +6,18 @@ use Rattle.std.specs.declared.io.ErrorKind.TheVariants as system
 use Rattle.macs_cli.specs.Controls.{printable_char}
 use Rattle.macs_cli.specs.declared.failure.Failure.{Failure}
 use Rattle.macs_cli.specs.declared.failure.Failure.TheVariants as failures
-use Rattle.macs_cli.specs.declared.file_reason.FileReason.{FileReason}
-use Rattle.macs_cli.specs.declared.file_reason.FileReason.TheVariants as reason
 
--- the reason for an error of the system, by its kind
-abbrev pub reason_of : ErrorKind → FileReason
-reason_of system.NotFound = reason.Missing
-reason_of system.NotADirectory = reason.Missing
-reason_of system.PermissionDenied = reason.NoPermission
-reason_of system.IsADirectory = reason.Folder
-reason_of system.FilesystemLoop = reason.Links
-reason_of system.TooManyLinks = reason.Links
-reason_of system.WouldBlock = reason.InUse
-reason_of system.InvalidInput = reason.NotRegular
-reason_of kind = reason.Unreadable
-
--- its text
-abbrev pub reason_text : FileReason → List ℕ
-reason_text reason.Missing = codes "no such file"
-reason_text reason.NoPermission = codes "no permission"
-reason_text reason.Folder = codes "a folder"
-reason_text reason.Links = codes "too many links"
-reason_text reason.InUse = codes "in use by another program"
-reason_text reason.NotRegular = codes "not a regular file, or standard output goes there"
-reason_text reason.Unreadable = codes "cannot be read"
+-- why a file cannot be used, for an error of the system, by its kind
+abbrev pub reason_text : ErrorKind → List ℕ
+reason_text system.NotFound = codes "no such file"
+reason_text system.NotADirectory = codes "no such file"
+reason_text system.PermissionDenied = codes "no permission"
+reason_text system.IsADirectory = codes "a folder"
+reason_text system.FilesystemLoop = codes "too many links"
+reason_text system.TooManyLinks = codes "too many links"
+reason_text system.WouldBlock = codes "in use by another program"
+reason_text system.InvalidInput = codes "not a regular file, or standard output goes there"
+reason_text kind = codes "cannot be read"
 
 -- a name as it is displayed: `?` replaces each control character
 abbrev pub IsShown : List ℕ → List ℕ → Type 0
@@ -42,7 +30,7 @@ Tells word name why said =
 
 -- the message about a file with this name, for some reason
 abbrev pub TellsOfFile : List ℕ → List ℕ → List ℕ → Type 0
-TellsOfFile word name said = (why : FileReason) × Tells word name (reason_text why) said
+TellsOfFile word name said = (kind : ErrorKind) × Tells word name (reason_text kind) said
 
 -- a failure has a message that satisfies this predicate, or memory runs out
 abbrev pub Complains : (List ℕ → Type 0) → Failure → Type 0

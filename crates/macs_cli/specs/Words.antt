@@ -1,11 +1,13 @@
 -- The words that the program knows, the action that they name, and those that ask for help.
-use Rattle.std.specs.Prelude.{◌≡◌, ◌≢◌, ◌↔◌, ◌⊎◌, ◌<◌, ◌-◌, ◌^◌, ℕ, ⊤, map, Bool, true, false, List, [], ◌∷◌, ◌++◌}
-use Rattle.std.specs.Prelude.{Option, Some, None, codes, IfSome, option_map, string_bytes}
+use Rattle.std.specs.Prelude.{◌≡◌, ◌≢◌, ◌↔◌, ◌⊎◌, ◌<◌, ◌-◌, ◌^◌, ℕ, ⊤, map, Bool, true, false, List, [], ◌∷◌}
+use Rattle.std.specs.Prelude.{Option, Some, None, codes, if◌then◌else◌, IfSome, option_and_then, option_map}
+use Rattle.std.specs.Prelude.{string_bytes}
+use Rattle.std.specs.Str.{bytes_eq}
 use Rattle.std.specs.Str.Parse.{IsNumeral, digits_value, without_leading_plus}
 use Rattle.std.specs.Borrow.{Bor}
 use Rattle.clap.specs.Simple.{new_shape, on_top}
 use Rattle.clap.specs.Words.{App, Row, Rule, Shape, Text, app_of, first_of, kind_of, new_app, new_rule, subcommand_of}
-use Rattle.clap.specs.Words.{takes}
+use Rattle.clap.specs.Words.{takes, with_rule, with_subcommand}
 use Rattle.clap.specs.declared.builder.action.ArgAction.TheVariants.{Set, SetTrue}
 use Rattle.clap.specs.declared.builder.value_parser.ValueParser.TheVariants as vp
 use Rattle.clap.specs.declared.builder.command.Command.{Command}
@@ -24,10 +26,12 @@ use Rattle.macs_cli.specs.declared.words.action.FrameAction.{FrameAction}
 use Rattle.macs_cli.specs.declared.words.action.FrameAction.TheVariants.{Protect, Validate, Relay}
 use Rattle.macs_cli.specs.declared.words.action.ToolAction.{ToolAction}
 use Rattle.macs_cli.specs.declared.words.action.ToolAction.TheVariants.{Ask, Key, Inspect, Check, Plan, Examine, About}
-use Rattle.macs_cli.specs.declared.words.plan_words.PlanEnd.{PlanEnd}
-use Rattle.macs_cli.specs.declared.words.plan_words.PlanEnd.TheVariants as plan_end
-use Rattle.macs_cli.specs.declared.words.plan_words.PlanStage.{PlanStage}
-use Rattle.macs_cli.specs.declared.words.plan_words.PlanStage.TheVariants as plan_stage
+use Rattle.macs_commands.specs.declared.links.link.End.{End}
+use Rattle.macs_commands.specs.declared.links.link.End.TheVariants as side
+use Rattle.macs_commands.specs.declared.links.planning.Stage.{Stage}
+use Rattle.macs_commands.specs.declared.links.planning.Stage.TheVariants as stage
+use Rattle.macs_cli.specs.declared.words.arguments.Kind.{Kind}
+use Rattle.macs_cli.specs.declared.words.arguments.Kind.TheVariants as kind
 use Rattle.macs_cli.specs.declared.words.action.Question.{Question}
 use Rattle.macs_cli.specs.declared.words.action.Question.TheVariants as question
 use Rattle.macs_cli.specs.declared.words.pace.Pace.{Pace}
@@ -43,82 +47,54 @@ texts = map (λ word. word.now)
 
 -- ---- the words that are known
 
--- a required value
-abbrev pub value_rule : Text → Rule
-value_rule name = record (new_rule name) { action = Some Set; required = true }
+-- the rule for an argument of this kind; numbers are in decimal
+abbrev pub rule_for : Kind → Text → Rule
+rule_for kind.Value name = record (new_rule name) { action = Some Set; required = true }
+rule_for kind.Number name =
+    record (new_rule name) { action = Some Set; required = true; parser = Some (vp.Unsigned 0 (2 ^ 32 - 1)) }
+rule_for kind.Last name = record (new_rule name) { action = Some Set }
+rule_for kind.Named name = record (new_rule name) { long = Some name; action = Some Set }
+rule_for kind.Count name =
+    record (new_rule name) { long = Some name; action = Some Set; parser = Some (vp.Unsigned 0 (2 ^ 64 - 1)) }
+rule_for kind.Wait name =
+    record (new_rule name) { long = Some name; action = Some Set; parser = Some (vp.Unsigned 1 60000) }
+rule_for kind.Room name =
+    record (new_rule name) { long = Some name; action = Some Set; parser = Some (vp.Unsigned 1 1073741823) }
+rule_for kind.Flag name = record (new_rule name) { long = Some name; action = Some SetTrue }
 
--- a required number: 0 to 2^32 - 1, in decimal
-abbrev pub number_rule : Text → Rule
-number_rule name = record (value_rule name) { parser = Some (vp.Unsigned 0 (2 ^ 32 - 1)) }
-
--- an optional text with this name
-abbrev pub option_rule : Text → Rule
-option_rule name = record (new_rule name) { long = Some name; action = Some Set }
-
--- an optional number with this name: 0 to 2^64 - 1, in decimal
-abbrev pub count_rule : Text → Rule
-count_rule name = record (option_rule name) { parser = Some (vp.Unsigned 0 (2 ^ 64 - 1)) }
-
--- an optional time with this name: milliseconds, 1 to 60,000, in decimal
-abbrev pub wait_rule : Text → Rule
-wait_rule name = record (option_rule name) { parser = Some (vp.Unsigned 1 60000) }
-
--- an optional buffer size with this name: octets, 1 to 1,073,741,823, in decimal
-abbrev pub room_rule : Text → Rule
-room_rule name = record (option_rule name) { parser = Some (vp.Unsigned 1 1073741823) }
-
--- an optional last value
-abbrev pub last_rule : Text → Rule
-last_rule name = record (new_rule name) { action = Some Set }
-
--- an option with this name and no value
-abbrev pub flag_rule : Text → Rule
-flag_rule name = record (new_rule name) { long = Some name; action = Some SetTrue }
-
--- a subcommand with its values, in order
+-- a subcommand with its arguments, in order
 abbrev pub subcommand_with : Text → List Rule → Shape
 subcommand_with name rules = record (new_shape name) { rules = rules }
 
--- the subcommands without frames, plus `open`, each with its values; `open` has none
-abbrev pub first_subcommands : List Shape
-first_subcommands =
+-- the subcommands
+abbrev pub known_subcommands : List Shape
+known_subcommands =
     subcommand_with (codes "open") []
     ∷ subcommand_with (codes "format")
-    (value_rule (codes "DISK") ∷ value_rule (codes "SCI") ∷ number_rule (codes "TX") ∷ number_rule (codes "RX")
-    ∷ option_rule (codes "block") ∷ flag_rule (codes "over") ∷ [])
-    ∷ subcommand_with (codes "apply") (value_rule (codes "DISK") ∷ value_rule (codes "FILE") ∷ [])
-    ∷ subcommand_with (codes "show") (value_rule (codes "DISK") ∷ [])
-    ∷ []
-
--- those that pass frames through an endpoint
-abbrev pub frame_subcommands : List Shape
-frame_subcommands =
-    subcommand_with (codes "protect")
-    (value_rule (codes "DISK") ∷ value_rule (codes "INPUT") ∷ value_rule (codes "OUTPUT")
-    ∷ flag_rule (codes "all") ∷ [])
+    (rule_for kind.Value (codes "DISK") ∷ rule_for kind.Value (codes "SCI") ∷ rule_for kind.Number (codes "TX")
+    ∷ rule_for kind.Number (codes "RX") ∷ rule_for kind.Named (codes "block") ∷ rule_for kind.Flag (codes "over") ∷ [])
+    ∷ subcommand_with (codes "apply") (rule_for kind.Value (codes "DISK") ∷ rule_for kind.Value (codes "FILE") ∷ [])
+    ∷ subcommand_with (codes "show") (rule_for kind.Value (codes "DISK") ∷ [])
+    ∷ subcommand_with (codes "protect")
+    (rule_for kind.Value (codes "DISK") ∷ rule_for kind.Value (codes "INPUT") ∷ rule_for kind.Value (codes "OUTPUT")
+    ∷ rule_for kind.Flag (codes "all") ∷ [])
     ∷ subcommand_with (codes "validate")
-    (value_rule (codes "DISK") ∷ value_rule (codes "INPUT") ∷ value_rule (codes "OUTPUT")
-    ∷ flag_rule (codes "all") ∷ flag_rule (codes "each") ∷ [])
+    (rule_for kind.Value (codes "DISK") ∷ rule_for kind.Value (codes "INPUT") ∷ rule_for kind.Value (codes "OUTPUT")
+    ∷ rule_for kind.Flag (codes "all") ∷ rule_for kind.Flag (codes "each") ∷ [])
     ∷ subcommand_with (codes "relay")
-    (value_rule (codes "DISK") ∷ value_rule (codes "OWN1") ∷ value_rule (codes "PEER1")
-    ∷ value_rule (codes "OWN2") ∷ value_rule (codes "PEER2") ∷ count_rule (codes "turns") ∷ wait_rule (codes "wait")
-    ∷ room_rule (codes "buffer") ∷ option_rule (codes "control") ∷ option_rule (codes "metrics") ∷ [])
-    ∷ []
-
--- the one that asks a running relay
-abbrev pub ask_subcommand : Shape
-ask_subcommand = subcommand_with (codes "ask")
-    (value_rule (codes "PATH") ∷ value_rule (codes "WORD") ∷ last_rule (codes "FILE") ∷ flag_rule (codes "json") ∷ [])
-
--- those that change no endpoint
-abbrev pub lone_subcommands : List Shape
-lone_subcommands =
-    subcommand_with (codes "key") (flag_rule (codes "long") ∷ [])
-    ∷ subcommand_with (codes "inspect") (value_rule (codes "INPUT") ∷ [])
-    ∷ subcommand_with (codes "check") (value_rule (codes "FILE") ∷ last_rule (codes "DISK") ∷ [])
+    (rule_for kind.Value (codes "DISK") ∷ rule_for kind.Value (codes "OWN1") ∷ rule_for kind.Value (codes "PEER1")
+    ∷ rule_for kind.Value (codes "OWN2") ∷ rule_for kind.Value (codes "PEER2") ∷ rule_for kind.Count (codes "turns")
+    ∷ rule_for kind.Wait (codes "wait") ∷ rule_for kind.Room (codes "buffer") ∷ rule_for kind.Named (codes "control")
+    ∷ rule_for kind.Named (codes "metrics") ∷ [])
+    ∷ subcommand_with (codes "ask")
+    (rule_for kind.Value (codes "PATH") ∷ rule_for kind.Value (codes "WORD") ∷ rule_for kind.Last (codes "FILE")
+    ∷ rule_for kind.Flag (codes "json") ∷ [])
+    ∷ subcommand_with (codes "key") (rule_for kind.Flag (codes "long") ∷ [])
+    ∷ subcommand_with (codes "inspect") (rule_for kind.Value (codes "INPUT") ∷ [])
+    ∷ subcommand_with (codes "check") (rule_for kind.Value (codes "FILE") ∷ rule_for kind.Last (codes "DISK") ∷ [])
     ∷ subcommand_with (codes "plan")
-    (value_rule (codes "FILE") ∷ value_rule (codes "END") ∷ value_rule (codes "STAGE") ∷ [])
-    ∷ subcommand_with (codes "examine") (value_rule (codes "DISK") ∷ flag_rule (codes "json") ∷ [])
+    (rule_for kind.Value (codes "FILE") ∷ rule_for kind.Value (codes "END") ∷ rule_for kind.Value (codes "STAGE") ∷ [])
+    ∷ subcommand_with (codes "examine") (rule_for kind.Value (codes "DISK") ∷ rule_for kind.Flag (codes "json") ∷ [])
     ∷ subcommand_with (codes "about") []
     ∷ []
 
@@ -132,13 +108,20 @@ bare_app = on_top (λ s. record s {
   disable_version_flag = true;
 }) (new_app (codes "macsecd"))
 
--- and these subcommands
-abbrev pub app_with : List Shape → App
-app_with shapes = record { top = record bare_app.top { is_leaf = false }; subs = shapes }
-
 -- the words that the program accepts
 abbrev pub macsecd : App
-macsecd = app_with (first_subcommands ++ frame_subcommands ++ ask_subcommand ∷ lone_subcommands)
+macsecd = record { top = record bare_app.top { is_leaf = false }; subs = known_subcommands }
+
+-- words with these arguments more
+abbrev pub with_arguments : App → List (Bor Text × Kind) → App
+with_arguments app [] = app
+with_arguments app (first ∷ rest) = with_arguments (with_rule app (rule_for first.1 first.0.now)) rest
+
+-- and with these subcommands more, each with its arguments
+abbrev pub with_subcommands : App → List (Bor Text × Bor (List (Bor Text × Kind))) → App
+with_subcommands app [] = app
+with_subcommands app (first ∷ rest) =
+    with_subcommands (with_subcommand app (with_arguments (new_app first.0.now) first.1.now).top) rest
 
 -- ---- actions
 
@@ -173,21 +156,26 @@ abbrev pub MayHaveRoom : List Row → Text → Option ℕ → Type 0
 MayHaveRoom values name None = first_of name values ≡ None
 MayHaveRoom values name (Some octets) = HasNumber values name octets × IsRoom octets
 
--- the word of a question that consists of one word
-abbrev pub plain_word : Question → Option Text
-plain_word question.Show = Some (codes "show")
-plain_word question.Counters = Some (codes "counters")
-plain_word question.Keys = Some (codes "keys")
-plain_word question.Traffic = Some (codes "traffic")
-plain_word question.About = Some (codes "about")
-plain_word question.Stop = Some (codes "stop")
-plain_word (question.Apply file) = None
+-- the question that a word alone asks
+abbrev pub plain_question : Text → Option Question
+plain_question word =
+    if bytes_eq word (codes "show") then Some question.Show
+    else if bytes_eq word (codes "counters") then Some question.Counters
+    else if bytes_eq word (codes "keys") then Some question.Keys
+    else if bytes_eq word (codes "traffic") then Some question.Traffic
+    else if bytes_eq word (codes "about") then Some question.About
+    else if bytes_eq word (codes "stop") then Some question.Stop
+    else None
 
--- the words of `ask` ask this question: one word, or `apply` and the file
+-- a word asks this question, with a file after it or without one: alone, or if it is `apply` and the file follows
+abbrev pub Asks : Option Text → Option Text → Question → Type 0
+Asks word None asked = option_and_then plain_question word ≡ Some asked
+Asks word (Some name) asked =
+    (word ≡ Some (codes "apply")) × (file : Bor Text) × (file.now ≡ name) × (asked ≡ question.Apply file)
+
+-- the words of `ask` ask this question
 abbrev pub HasQuestion : List Row → Question → Type 0
-HasQuestion values (question.Apply file) = HasText values (codes "WORD") (codes "apply")
-    × HasText values (codes "FILE") file.now
-HasQuestion values asked = (first_of (codes "WORD") values ≡ plain_word asked) × (first_of (codes "FILE") values ≡ None)
+HasQuestion values asked = Asks (first_of (codes "WORD") values) (first_of (codes "FILE") values) asked
 
 -- the answer to a question is a report
 abbrev pub is_report : Question → Bool
@@ -199,22 +187,26 @@ is_report question.About = true
 is_report question.Stop = false
 is_report (question.Apply file) = false
 
--- the word of an end of a link
-abbrev pub end_word : PlanEnd → Text
-end_word plan_end.Left = codes "left"
-end_word plan_end.Right = codes "right"
+-- the end of a link with this name
+abbrev pub end_named : Text → Option End
+end_named word =
+    if bytes_eq word (codes "left") then Some side.Left
+    else if bytes_eq word (codes "right") then Some side.Right
+    else None
 
--- the word of a stage of its keys
-abbrev pub stage_word : PlanStage → Text
-stage_word plan_stage.First = codes "first"
-stage_word plan_stage.Receive = codes "receive"
-stage_word plan_stage.Send = codes "send"
-stage_word plan_stage.Remove = codes "remove"
+-- the stage of its keys with this name
+abbrev pub stage_named : Text → Option Stage
+stage_named word =
+    if bytes_eq word (codes "first") then Some stage.First
+    else if bytes_eq word (codes "receive") then Some stage.Receive
+    else if bytes_eq word (codes "send") then Some stage.Send
+    else if bytes_eq word (codes "remove") then Some stage.Remove
+    else None
 
 -- the words of `plan` name this end and this stage
-abbrev pub HasPlan : List Row → PlanEnd → PlanStage → Type 0
-HasPlan values end stage = HasText values (codes "END") (end_word end)
-    × HasText values (codes "STAGE") (stage_word stage)
+abbrev pub HasPlan : List Row → End → Stage → Type 0
+HasPlan values end which = (option_and_then end_named (first_of (codes "END") values) ≡ Some end)
+    × (option_and_then stage_named (first_of (codes "STAGE") values) ≡ Some which)
 
 -- whether the option without a value is given
 abbrev pub IsFlagged : List Row → Text → Bool → Type 0
@@ -255,8 +247,8 @@ NamesTool found (Key is_long) = (found.0 ≡ codes "key") × IsFlagged found.1 (
 NamesTool found (Inspect input) = (found.0 ≡ codes "inspect") × HasText found.1 (codes "INPUT") input.now
 NamesTool found (Check file disk) =
     (found.0 ≡ codes "check") × HasText found.1 (codes "FILE") file.now × MayHaveText found.1 (codes "DISK") disk
-NamesTool found (Plan file end stage) =
-    (found.0 ≡ codes "plan") × HasText found.1 (codes "FILE") file.now × HasPlan found.1 end stage
+NamesTool found (Plan file end which) =
+    (found.0 ≡ codes "plan") × HasText found.1 (codes "FILE") file.now × HasPlan found.1 end which
 NamesTool found (Examine disk is_json) = (found.0 ≡ codes "examine") × HasText found.1 (codes "DISK") disk.now
     × IsFlagged found.1 (codes "json") is_json
 NamesTool found About = found.0 ≡ codes "about"
@@ -290,7 +282,7 @@ LacksReport (Some found) = (found.0 ≡ codes "ask") × HasText found.1 (codes "
 abbrev pub LacksPlan : Option (Text × List Row) → Type 0
 LacksPlan None = ⊥
 LacksPlan (Some found) =
-    (found.0 ≡ codes "plan") × ((end : PlanEnd) (stage : PlanStage) → ¬ HasPlan found.1 end stage)
+    (found.0 ≡ codes "plan") × ((end : End) (which : Stage) → ¬ HasPlan found.1 end which)
 
 -- words that clap accepts and that name no action
 abbrev pub NamesNothing : Option (Text × List Row) → Type 0

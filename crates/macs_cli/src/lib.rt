@@ -22,8 +22,9 @@ pub use addresses::{AddressFault, Addresses, WireAddresses, addresses_of};
 pub use capture_file::CaptureFile;
 pub use failure::{DiskFault, Failure, LinkRefusal, failure_of_refill, failure_of_run};
 pub use file_mode::{mode_of, print_mode};
-pub use file_reason::{FileReason, failure_at, failure_at_disk, failure_saying, failure_told};
+pub use file_reason::{failure_at, failure_at_disk, failure_saying, failure_told};
 pub use json_output::{print_json, print_report};
+pub use macs_commands::links::{End as PlanEnd, Stage as PlanStage};
 pub use open_input::{InputFault, MAX_INPUT, OpenInput, SpelledFrame, request_of};
 pub use output::{Line, append_count, append_text, print, print_last, print_octets};
 pub use report_json::{json_lines, json_of_line};
@@ -32,6 +33,6 @@ pub use stream::{PrintFailed, Stream, WriterStream};
 pub use values::{FormatValues, ValueFault, format_values};
 pub use whole_writes::WholeWrites;
 pub use words::{
-    Action, DiskAction, FrameAction, Milliseconds, Pace, PlanEnd, PlanStage, Question, Running,
-    Subcommand, ToolAction, Topic, UsageFault, WireEnds, action_of, printable, topic_of,
+    Action, DiskAction, FrameAction, Milliseconds, Pace, Question, Running, Subcommand, ToolAction,
+    Topic, UsageFault, WireEnds, action_of, printable, topic_of,
 };

@@ -19,7 +19,7 @@ use Rattle.macs_offline.specs.TomlPlaces.{not_toml_text, place_in}
 use Rattle.toml.specs.Errors.{IsMemory, IsWithin}
 use Rattle.toml.specs.declared.de.error.Error.{Error}
 use Rattle.std.proofs.Common.{codes}
-use Rattle.macs_cli.specs.declared.file_reason.FileReason.{FileReason}
+use Rattle.std.specs.declared.io.ErrorKind.{ErrorKind}
 use Rattle.macs_cli.specs.declared.failure.Failure.{Failure}
 use Rattle.macs_cli.specs.declared.failure.Failure.TheVariants.{Memory}
 
@@ -92,11 +92,11 @@ said-of left_in end given said same by_file =
     subst (λ (commands : List Command). SaidByFile left_in end commands) (sym same) by_file
 
 -- it is not read, for this reason
-pub unread-for : (word name : List ℕ) (why : FileReason) (failure : Failure)
-    → Complains (Tells word name (reason_text why)) failure → Complains (TellsOfFile word name) failure
-unread-for word name why failure complains =
-    complains-weaker (Tells word name (reason_text why)) (TellsOfFile word name) failure
-    (λ said is. (why, is)) complains
+pub unread-for : (word name : List ℕ) (kind : ErrorKind) (failure : Failure)
+    → Complains (Tells word name (reason_text kind)) failure → Complains (TellsOfFile word name) failure
+unread-for word name kind failure complains =
+    complains-weaker (Tells word name (reason_text kind)) (TellsOfFile word name) failure
+    (λ said is. (kind, is)) complains
 
 module _ (IsSaid : List ℕ → List ℕ → Type 0) (name : List ℕ) where
   -- nothing could be read of it; or this is said of its octets

@@ -13,7 +13,7 @@ use Rattle.macs_cli.specs.declared.failure.Failure.{Failure}
 use Rattle.macs_cli.specs.declared.failure.Failure.TheVariants.{Capture, Commands, Disk, DiskFile, Memory}
 use Rattle.macs_cli.specs.declared.failure.Failure.TheVariants.{Output}
 use Rattle.macs_cli.specs.Reasons.{ComplainsOfDisk, IsNotRead, Tells, reason_text}
-use Rattle.macs_cli.specs.declared.file_reason.FileReason.{FileReason}
+use Rattle.std.specs.declared.io.ErrorKind.{ErrorKind}
 use Rattle.std.proofs.Common.{codes}
 use Rattle.macs_cli.specs.declared.status.Status.TheVariants.{Usage}
 
@@ -83,10 +83,10 @@ of-unread name failure (inl memory) = inl (inl memory)
 of-unread name failure (inr (text, is, said)) = inr (text, is)
 
 -- it is not opened, for this reason
-pub not-read-for : (name : List ℕ) (why : FileReason) (failure : Failure)
-    → ComplainsOfDisk (Tells (codes "disk file") name (reason_text why)) failure → IsNotRead name failure
-not-read-for name why failure (inl memory) = inl memory
-not-read-for name why failure (inr (text, is, tells)) = inr (text, is, (why, tells))
+pub not-read-for : (name : List ℕ) (kind : ErrorKind) (failure : Failure)
+    → ComplainsOfDisk (Tells (codes "disk file") name (reason_text kind)) failure → IsNotRead name failure
+not-read-for name kind failure (inl memory) = inl memory
+not-read-for name kind failure (inr (text, is, tells)) = inr (text, is, (kind, tells))
 
 pub copy-no-output : (failure : Failure) → IsOfCopy failure → failure ≢ Output
 copy-no-output failure (inl ours) is = disk-no-output failure ours is

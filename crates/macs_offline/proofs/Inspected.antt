@@ -24,7 +24,7 @@ use Rattle.macs_cli.specs.declared.status.Status.{Status}
 use Rattle.macs_offline.specs.declared.stop.Stop.{Stop}
 use Rattle.macs_offline.specs.declared.stop.Stop.TheVariants as stops
 use Rattle.macs_cli.specs.Reasons.{Complains, Tells}
-use Rattle.macs_offline.specs.CaptureReasons.{capture_text, header_reason, record_reason}
+use Rattle.macs_offline.specs.CaptureReasons.{header_text, record_text}
 use Rattle.std.proofs.Common.{codes}
 
 -- ---- lines
@@ -123,9 +123,9 @@ Told name why = Tells (codes "capture") name why
 
 pub of-stop : (name : List ℕ) (stop : Stop) (failure : Failure) → FailsSo name stop failure → IsOfInspecting failure
 of-stop name (stops.Header fault) failure (is_pcapng, complains) =
-    of-complaint (Told name (capture_text (header_reason is_pcapng fault))) failure complains
+    of-complaint (Told name (header_text is_pcapng fault)) failure complains
 of-stop name (stops.Record fault) failure (memory, complains) =
-    of-complaint (Told name (capture_text (record_reason fault))) failure complains
+    of-complaint (Told name (record_text fault)) failure complains
 of-stop name stops.Memory failure is = subst IsOfInspecting (sym is) tt
 of-stop name stops.Output failure is = subst IsOfInspecting (sym is) tt
 
@@ -137,9 +137,9 @@ no-output Holds failure (inr (text, said, holds)) is = let e = sym said ∙ is i
 pub stop-output : (name : List ℕ) (stop : Stop) (failure : Failure) → FailsSo name stop failure
     → failure ≡ failures.Output → stop ≡ stops.Output
 stop-output name (stops.Header fault) failure (is_pcapng, complains) is =
-    absurd (no-output (Told name (capture_text (header_reason is_pcapng fault))) failure complains is)
+    absurd (no-output (Told name (header_text is_pcapng fault)) failure complains is)
 stop-output name (stops.Record fault) failure (memory, complains) is =
-    absurd (no-output (Told name (capture_text (record_reason fault))) failure complains is)
+    absurd (no-output (Told name (record_text fault)) failure complains is)
 stop-output name stops.Memory failure memory is = absurd (let e = sym memory ∙ is in cc)
 stop-output name stops.Output failure output is = refl
 

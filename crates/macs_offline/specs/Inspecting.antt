@@ -21,7 +21,7 @@ use Rattle.macs_pcap.specs.declared.fault.PcapFault.TheVariants as pcap
 use Rattle.macs_pcap.specs.declared.header.Header.{Header}
 use Rattle.macs_texts.specs.Lines.{line}
 use Rattle.macs_offline.specs.Opened.{refusal_text}
-use Rattle.macs_offline.specs.CaptureReasons.{capture_text, header_reason, record_reason}
+use Rattle.macs_offline.specs.CaptureReasons.{header_text, record_text}
 use Rattle.macs_cli.specs.Reasons.{Complains, Tells, TellsOfFile}
 use Rattle.macs_cli.specs.declared.failure.Failure.{Failure}
 use Rattle.macs_cli.specs.declared.failure.Failure.TheVariants as failures
@@ -165,9 +165,9 @@ Inspects before after = (old : SourceState) × (new : SourceState) × InspectsCa
 -- a failure gives the reason why the capture with this name is not inspected whole
 abbrev pub FailsSo : List ℕ → Stop → Failure → Type 0
 FailsSo name (stops.Header fault) failure =
-    (is_pcapng : Bool) × Complains (Tells (codes "capture") name (capture_text (header_reason is_pcapng fault))) failure
+    (is_pcapng : Bool) × Complains (Tells (codes "capture") name (header_text is_pcapng fault)) failure
 FailsSo name (stops.Record fault) failure = (fault ≡ pcap.Memory → failure ≡ failures.Memory)
-    × Complains (Tells (codes "capture") name (capture_text (record_reason fault))) failure
+    × Complains (Tells (codes "capture") name (record_text fault)) failure
 FailsSo name stops.Memory failure = failure ≡ failures.Memory
 FailsSo name stops.Output failure = failure ≡ failures.Output
 

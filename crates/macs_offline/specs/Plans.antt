@@ -9,7 +9,6 @@ use Rattle.toml.specs.Parse.{parse_document}
 use Rattle.macs_commands.specs.Planning.{file_planned}
 use Rattle.macs_commands.specs.Writing.{PlansText}
 use Rattle.macs_commands.specs.declared.links.link.End.{End}
-use Rattle.macs_commands.specs.declared.links.link.End.TheVariants as side
 use Rattle.macs_commands.specs.declared.links.plan_fault.Place.{Place}
 use Rattle.macs_commands.specs.declared.links.plan_fault.Place.TheVariants as place
 use Rattle.macs_commands.specs.declared.links.plan_fault.PlanFault.{PlanFault}
@@ -17,11 +16,6 @@ use Rattle.macs_commands.specs.declared.links.plan_fault.PlanFault.TheVariants a
 use Rattle.macs_commands.specs.declared.links.plan_fault.ValueName.{ValueName}
 use Rattle.macs_commands.specs.declared.links.plan_fault.ValueName.TheVariants as name
 use Rattle.macs_commands.specs.declared.links.planning.Stage.{Stage}
-use Rattle.macs_commands.specs.declared.links.planning.Stage.TheVariants as stage
-use Rattle.macs_cli.specs.declared.words.plan_words.PlanEnd.{PlanEnd}
-use Rattle.macs_cli.specs.declared.words.plan_words.PlanEnd.TheVariants as plan_end
-use Rattle.macs_cli.specs.declared.words.plan_words.PlanStage.{PlanStage}
-use Rattle.macs_cli.specs.declared.words.plan_words.PlanStage.TheVariants as plan_stage
 use Rattle.macs_offline.specs.Applying.{longest_file}
 use Rattle.macs_cli.specs.Reasons.{Complains, IsLinkUnread}
 use Rattle.macs_offline.specs.TomlPlaces.{SaysNotToml}
@@ -29,20 +23,6 @@ use Rattle.macs_cli.specs.declared.failure.Failure.{Failure}
 use Rattle.macs_cli.specs.declared.failure.Failure.TheVariants as failures
 use Rattle.macs_cli.specs.declared.failure.LinkRefusal.{LinkRefusal}
 use Rattle.macs_cli.specs.declared.failure.LinkRefusal.TheVariants as wrong
-
--- ---- the request
-
--- the end that a word names
-abbrev pub end_of : PlanEnd → End
-end_of plan_end.Left = side.Left
-end_of plan_end.Right = side.Right
-
--- the stage that a word names
-abbrev pub stage_of : PlanStage → Stage
-stage_of plan_stage.First = stage.First
-stage_of plan_stage.Receive = stage.Receive
-stage_of plan_stage.Send = stage.Send
-stage_of plan_stage.Remove = stage.Remove
 
 -- ---- messages
 

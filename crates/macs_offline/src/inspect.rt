@@ -15,7 +15,7 @@ ghost use Rattle.macs_cli.specs.Reasons.{Complains, TellsOfFile};
 use crate::files::{CaptureSource, open_source, source_over};
 use crate::hex_text::HexText;
 use crate::opened::refusal_text;
-use crate::stop::{CaptureReason, Stop};
+use crate::stop::{Stop, header_text, record_text};
 use macs_cli::{CaptureFile, Failure, Status, Stream, failure_at, failure_told};
 use macs_frame::{OpenFault, ScName, SecTag, read_tag};
 use macs_pcap::{PcapFault, Source, read_header, read_record};
@@ -235,8 +235,7 @@ fn failure_of_header<T: Files>(rt: &T, alloc: Global, name: &str, fault: PcapFau
     ensures { FailsSo name.now (Stop.Header fault) result }
 {
     let is_pcapng = fault == PcapFault::BadMagic && is_pcapng(rt, name);
-    let reason = CaptureReason::of_header(is_pcapng, fault);
-    failure_told(alloc, "capture", name, reason.text())
+    failure_told(alloc, "capture", name, header_text(is_pcapng, fault))
 }
 
 /// The failure for a fault of a record.
@@ -245,12 +244,7 @@ fn failure_of_record(alloc: Global, name: &str, fault: PcapFault) -> Failure
 {
     match fault {
         PcapFault::Memory => Failure::Memory,
-        _ => failure_told(
-            alloc,
-            "capture",
-            name,
-            CaptureReason::of_record(fault).text(),
-        ),
+        _ => failure_told(alloc, "capture", name, record_text(fault)),
     }
 }
 

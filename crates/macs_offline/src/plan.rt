@@ -9,15 +9,13 @@ ghost use Rattle.toml.specs.Parse.{parse_document};
 ghost use Rattle.macs_commands.specs.Writing.{PlansText};
 ghost use Rattle.macs_offline.specs.Plans.{IsPlanOfFile, PlanFails, PlansFile, PrintsPlan};
 ghost use Rattle.macs_offline.specs.Plans.{RefusesSo, SaysWhy, SaysWhyOfFile, SaysWhyOfText};
-ghost use Rattle.macs_offline.specs.Plans.{end_of, extra_text, link_refusal, name_reason};
-ghost use Rattle.macs_offline.specs.Plans.{name_word, plan_fault_text, stage_of, value_text};
+ghost use Rattle.macs_offline.specs.Plans.{extra_text, link_refusal, name_reason, name_word};
+ghost use Rattle.macs_offline.specs.Plans.{plan_fault_text, value_text};
 ghost use Rattle.macs_cli.specs.Reasons.{Complains, IsLinkUnread};
 
 use crate::command_file::{MAX_FILE, MAX_READ};
 use crate::toml_place::failure_of_toml;
-use macs_cli::{
-    Failure, LinkRefusal, PlanEnd, PlanStage, Status, Stream, failure_at, failure_saying, print,
-};
+use macs_cli::{Failure, LinkRefusal, Status, Stream, failure_at, failure_saying, print};
 use macs_commands::links::{End, Place, PlanFault, Stage, ValueName};
 use macs_commands::secrets::{SecretOctets, SecretTable, SecretText};
 use std::alloc::{AllocError, Global};
@@ -25,28 +23,6 @@ use std::fs;
 use std::io::Read;
 use std::rt::Files;
 use toml::Table;
-
-/// The end that a word names.
-fn end_of(end: PlanEnd) -> End
-    ensures { result ≡ end_of end }
-{
-    match end {
-        PlanEnd::Left => End::Left,
-        PlanEnd::Right => End::Right,
-    }
-}
-
-/// The stage that a word names.
-fn stage_of(stage: PlanStage) -> Stage
-    ensures { result ≡ stage_of stage }
-{
-    match stage {
-        PlanStage::First => Stage::First,
-        PlanStage::Receive => Stage::Receive,
-        PlanStage::Send => Stage::Send,
-        PlanStage::Remove => Stage::Remove,
-    }
-}
 
 /// A key of a table, as it is spelled.
 fn name_word(name: ValueName) -> &'static str
@@ -245,20 +221,18 @@ pub fn plan<T: Files, W: Stream>(
     rt: &T,
     alloc: Global,
     path: &str,
-    end: PlanEnd,
-    stage: PlanStage,
+    end: End,
+    stage: Stage,
     out: &mut W,
 ) -> Result<Status, Failure>
     ensures printed { IfOk result (λ status.
-        PrintsPlan T.File.remaining (end_of end) (stage_of stage) (W.contents out.old)
-        (W.contents out.new)
+        PrintsPlan T.File.remaining end stage (W.contents out.old) (W.contents out.new)
         × (status ≡ Status.Done)) }
-    ensures ended { IfErr result
-        (PlanFails T.File.remaining path.now (end_of end) (stage_of stage)) }
+    ensures ended { IfErr result (PlanFails T.File.remaining path.now end stage) }
     ensures silent { IfErr result (λ failure. failure ≢ Failure.Output → out.new ≡ out.old) }
     ensures broken { IfErr result (λ failure. failure ≡ Failure.Output → W.failed out.new ≡ true) }
 {
-    let text = SecretText(planned_file(rt, alloc, path, end_of(end), stage_of(stage))?);
+    let text = SecretText(planned_file(rt, alloc, path, end, stage)?);
     print(out, text.0.as_str())?;
     Ok(Status::Done)
 }

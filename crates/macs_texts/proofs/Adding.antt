@@ -42,6 +42,10 @@ looped {X = X} f xs count i front before after lines counted end so_far added =
     ∙ written_both front lines (flat_map f (take i xs))
     ∙ ap (λ (t : List X). written front (lines ++ flat_map f t)) (take_all i xs past)
 
+-- once the items that are left are written too, all are: with this as its invariant a loop may need no answer
+abbrev pub WritesRest : {X : Type 0} → (X → List ℕ) → List X → List X → Sheet → Sheet → Type 0
+WritesRest lines all left front so_far = written so_far (flat_map lines left) ≡ written front (flat_map lines all)
+
 -- one text after another, for search
 pub joined : (sheet : Sheet) (front back : List ℕ) → written (written sheet front) back ≡ written sheet (front ++ back)
 joined = written_both

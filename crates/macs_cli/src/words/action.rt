@@ -1,7 +1,7 @@
 //! The action that the program's words request.
 
 use crate::words::pace::Running;
-use crate::words::plan_words::{PlanEnd, PlanStage};
+use macs_commands::links::{End, Stage};
 use std::alloc::AllocError;
 
 /// What the program should do, with the values from the words.
@@ -109,8 +109,8 @@ pub enum ToolAction<'a> {
     Plan {
         /// The link file.
         file: &'a str,
-        end: PlanEnd,
-        stage: PlanStage,
+        end: End,
+        stage: Stage,
     },
     /// Prints a report on the journal of a disk, which is only read: `examine DISK`, optionally
     /// with `--json`.

@@ -1,16 +1,87 @@
 //! The words that the program accepts.
 
-ghost use Rattle.std.specs.Prelude.{◌≡◌, ◌++◌, ◌∷◌, IfOk, []};
-ghost use Rattle.clap.specs.Words.{App, app_of, with_subcommand};
-ghost use Rattle.macs_cli.specs.Words.{IsClapCommand, app_with, ask_subcommand, bare_app};
-ghost use Rattle.macs_cli.specs.Words.{first_subcommands, frame_subcommands, macsecd};
+ghost use Rattle.std.specs.Prelude.{◌≡◌, IfOk};
+ghost use Rattle.clap.specs.Words.{app_of, new_app};
+ghost use Rattle.macs_cli.specs.Words.{IsClapCommand, bare_app, macsecd, with_arguments};
+ghost use Rattle.macs_cli.specs.Words.{with_subcommands};
 
-use crate::words::subcommand_words::{
-    about_words, apply_words, ask_words, capture_words, check_words, examine_words, file_words,
-    format_words, key_words, open_words, plan_words, relay_words, show_words, validate_words,
-};
+use crate::words::arguments::{Kind, argument};
 use clap::Command;
 use std::alloc::{AllocError, Global};
+
+/// The subcommands, each with its arguments, in order.
+const SUBCOMMANDS: &[(&str, &[(&str, Kind)])] = &[
+    ("open", &[]),
+    (
+        "format",
+        &[
+            ("DISK", Kind::Value),
+            ("SCI", Kind::Value),
+            ("TX", Kind::Number),
+            ("RX", Kind::Number),
+            ("block", Kind::Named),
+            ("over", Kind::Flag),
+        ],
+    ),
+    ("apply", &[("DISK", Kind::Value), ("FILE", Kind::Value)]),
+    ("show", &[("DISK", Kind::Value)]),
+    (
+        "protect",
+        &[
+            ("DISK", Kind::Value),
+            ("INPUT", Kind::Value),
+            ("OUTPUT", Kind::Value),
+            ("all", Kind::Flag),
+        ],
+    ),
+    (
+        "validate",
+        &[
+            ("DISK", Kind::Value),
+            ("INPUT", Kind::Value),
+            ("OUTPUT", Kind::Value),
+            ("all", Kind::Flag),
+            ("each", Kind::Flag),
+        ],
+    ),
+    (
+        "relay",
+        &[
+            ("DISK", Kind::Value),
+            ("OWN1", Kind::Value),
+            ("PEER1", Kind::Value),
+            ("OWN2", Kind::Value),
+            ("PEER2", Kind::Value),
+            ("turns", Kind::Count),
+            ("wait", Kind::Wait),
+            ("buffer", Kind::Room),
+            ("control", Kind::Named),
+            ("metrics", Kind::Named),
+        ],
+    ),
+    (
+        "ask",
+        &[
+            ("PATH", Kind::Value),
+            ("WORD", Kind::Value),
+            ("FILE", Kind::Last),
+            ("json", Kind::Flag),
+        ],
+    ),
+    ("key", &[("long", Kind::Flag)]),
+    ("inspect", &[("INPUT", Kind::Value)]),
+    ("check", &[("FILE", Kind::Value), ("DISK", Kind::Last)]),
+    (
+        "plan",
+        &[
+            ("FILE", Kind::Value),
+            ("END", Kind::Value),
+            ("STAGE", Kind::Value),
+        ],
+    ),
+    ("examine", &[("DISK", Kind::Value), ("json", Kind::Flag)]),
+    ("about", &[]),
+];
 
 /// The words before any subcommand: they begin after the program's name, and the library's own help
 /// and version flags and its help subcommand are disabled.
@@ -24,60 +95,43 @@ fn bare_words<'a>(alloc: Global) -> Command<'a>
         .disable_version_flag(true)
 }
 
-/// These words with one more subcommand.
-fn with_subcommand<'a>(
-    words: Result<Command<'a>, AllocError>,
-    subcommand: Command<'a>,
+/// The words of a subcommand with these arguments.
+fn subcommand<'a>(
+    alloc: Global,
+    name: &'a str,
+    arguments: &'a [(&'a str, Kind)],
 ) -> Result<Command<'a>, AllocError>
-    ensures { (app its : App) → IfOk words.entry (λ command. app_of command ≡ app)
-        → IsClapCommand subcommand.entry its
-        → IfOk result (λ command. app_of command ≡ with_subcommand app its.top) }
+    ensures { IfOk result (λ command.
+        IsClapCommand command (with_arguments (new_app name.entry.now) arguments.entry.now)) }
 {
-    words?.subcommand(subcommand)
+    let mut words = Command::new(alloc, name);
+    for i in 0..arguments.len() {
+        let (name, kind) = arguments[i];
+        words = words.arg(argument(alloc, name, kind))?;
+    }
+    Ok(words)
 }
 
-/// The same, if the subcommand's words could be allocated.
-fn with_words<'a>(
-    words: Result<Command<'a>, AllocError>,
-    subcommand: Result<Command<'a>, AllocError>,
+/// These words with more subcommands.
+fn with_subcommands<'a>(
+    alloc: Global,
+    words: Command<'a>,
+    subcommands: &'a [(&'a str, &'a [(&'a str, Kind)])],
 ) -> Result<Command<'a>, AllocError>
-    ensures { (app its : App) → IfOk words.entry (λ command. app_of command ≡ app)
-        → IfOk subcommand.entry (λ command. IsClapCommand command its)
-        → IfOk result (λ command. app_of command ≡ with_subcommand app its.top) }
+    ensures { IfOk result (λ command.
+        app_of command ≡ with_subcommands (app_of words.entry) subcommands.entry.now) }
 {
-    with_subcommand(words, subcommand?)
-}
-
-/// The words of the subcommands without frames, plus `open`.
-fn first_words<'a>(alloc: Global) -> Result<Command<'a>, AllocError>
-    ensures { IfOk result (λ command. app_of command ≡ app_with first_subcommands) }
-{
-    let words = with_subcommand(Ok(bare_words(alloc)), open_words(alloc));
-    let words = with_words(words, format_words(alloc));
-    let words = with_words(words, apply_words(alloc));
-    with_words(words, show_words(alloc))
-}
-
-/// These, and the words of the subcommands that pass frames through an endpoint or ask a running
-/// relay.
-fn endpoint_words<'a>(alloc: Global) -> Result<Command<'a>, AllocError>
-    ensures { IfOk result (λ command. app_of command
-        ≡ app_with (first_subcommands ++ frame_subcommands ++ ask_subcommand ∷ [])) }
-{
-    let words = with_words(first_words(alloc), capture_words(alloc, "protect"));
-    let words = with_words(words, validate_words(alloc));
-    let words = with_words(words, relay_words(alloc));
-    with_words(words, ask_words(alloc))
+    let mut words = words;
+    for i in 0..subcommands.len() {
+        let (name, arguments) = subcommands[i];
+        words = words.subcommand(subcommand(alloc, name, arguments)?)?;
+    }
+    Ok(words)
 }
 
 /// The words that the program accepts.
 pub fn known_words<'a>(alloc: Global) -> Result<Command<'a>, AllocError>
     ensures { IfOk result (λ command. app_of command ≡ macsecd) }
 {
-    let words = with_words(endpoint_words(alloc), key_words(alloc));
-    let words = with_words(words, file_words(alloc, "inspect", "INPUT"));
-    let words = with_words(words, check_words(alloc));
-    let words = with_words(words, plan_words(alloc));
-    let words = with_words(words, examine_words(alloc));
-    with_subcommand(words, about_words(alloc))
+    with_subcommands(alloc, bare_words(alloc), SUBCOMMANDS)
 }

@@ -1,8 +1,8 @@
 //! `ask` with its values.
 
-ghost use Rattle.std.specs.Prelude.{◌≡◌, ◌↔◌, IfSome, IsSome, Some, codes};
+ghost use Rattle.std.specs.Prelude.{◌≡◌, IfSome, IsSome, codes};
 ghost use Rattle.clap.specs.Words.{found_of, rows_of};
-ghost use Rattle.macs_cli.specs.Words.{HasQuestion, NamesTool, is_report, plain_word};
+ghost use Rattle.macs_cli.specs.Words.{HasQuestion, NamesTool, is_report, plain_question};
 ghost use Rattle.macs_cli.specs.declared.words.action.Question.{Question};
 
 use crate::words::action::{Question, ToolAction};
@@ -11,8 +11,7 @@ use clap::ArgMatches;
 
 /// The question that consists of this word, except `apply`.
 fn plain_question<'a>(word: &str) -> Option<Question<'a>>
-    ensures { (question : Question)
-        → (result ≡ Some question) ↔ (Some word.now ≡ plain_word question) }
+    ensures { result ≡ plain_question word.now }
 {
     match word {
         "show" => Some(Question::Show),

@@ -80,8 +80,5 @@ pub fn action_in<'a>(matches: &ArgMatches<'a>) -> Option<Action<'a>>
     if let Some(action) = frame_action_in(name, values) {
         return Some(Action::OnFrames(action));
     }
-    match tool_action_in(name, values) {
-        Some(action) => Some(Action::Tool(action)),
-        None => None,
-    }
+    Some(Action::Tool(tool_action_in(name, values)?))
 }

@@ -1,7 +1,0 @@
-use Rattle.macs_cli.proofs.words.subcommand_words.capture_words.Goals as goal
-
-pub returns : goal.returns
-returns c =
-    let with-1 = c.with_required-words.ensures _ c.file_words-words.ensures in
-    let with-2 = c.with_required-words-2.ensures _ with-1 in
-    c.with_value.ensures _ _ with-2 c.flag.ensures.rule c.flag.ensures.local

@@ -1,4 +1,0 @@
-use Rattle.macs_cli.proofs.words.subcommand_words.examine_words.Goals as goal
-
-pub returns : goal.returns
-returns c = c.with_value.ensures _ _ c.file_words.ensures c.flag.ensures.rule c.flag.ensures.local
