@@ -1,7 +1,7 @@
 -- Whatever the smaller edition takes the larger takes too.
 use Rattle.std.proofs.Common.{◌≡◌, ◌∙◌, ℕ, Bool, true, false, cond, not, ◌&&◌, ◌||◌, ◌==◌, nat_le, nat_lt, List, []}
-use Rattle.std.proofs.Common.{◌∷◌, ◌++◌, length, Option, Some, None, is_none, Ok, bytes_eq, inl, inr, refl, ap, arith}
-use Rattle.std.proofs.lemmas.Bool.{and_from, and_parts, leb-false, lt-leb, ltb-true, lt-ltb, not-false}
+use Rattle.std.proofs.Common.{◌∷◌, ◌++◌, length, Option, Some, None, is_none, Ok, bytes_eq, map, inl, inr, refl, ap, arith}
+use Rattle.std.proofs.lemmas.Bool.{and_from, and_parts, leb-false, lt-leb, lt-ltb, ltb-true, not-false, or_right}
 use Rattle.macs_aes.specs.Keys.{octets_of_key}
 use Rattle.macs_fields.specs.First.{first}
 use Rattle.macs_config.specs.Apply.{IsCommand, IsKey, LongKey, Named, Reason, apply, are_channels_full, are_spent_full}
@@ -17,6 +17,7 @@ use Rattle.macs_config.specs.declared.command.Command.TheVariants.{RxAdd, RxDrop
 use Rattle.macs_config.specs.declared.command.Command.TheVariants.{SetSciMode, SetValidate, TxInstall, TxRemove, TxUse}
 use Rattle.macs_config.specs.declared.part.Part.{Part}
 use Rattle.macs_config.specs.declared.part.Part.TheVariants.{Settings, TxSa, Channel, RxSa, Spent}
+use Rattle.macs_config.specs.declared.refusal.Refusal.{Refusal}
 use Rattle.macs_config.specs.declared.refusal.Refusal.TheVariants.{ChannelTaken, ChannelsFull, EndStationSci, InUse}
 use Rattle.macs_config.specs.declared.refusal.Refusal.TheVariants.{KeySpent, NoChannel, OffsetChoice, OwnSci, SlotEmpty}
 use Rattle.macs_config.specs.declared.refusal.Refusal.TheVariants.{SlotTaken, SpentFull, StartRange}
@@ -48,15 +49,11 @@ last_by [] true longer fewer is = cc
 last_by [] false longer fewer is = ap (λ (test : Bool). cond test (Some LongKey) None) (fewer refl)
 last_by (row ∷ rows) long longer fewer is = last_behind row.0 row.1 rows long longer (last_by rows long longer fewer) is
 
-short_taken : (first short : Bool) → short ≡ true → (first || short) ≡ true
-short_taken true short is = refl
-short_taken false short is = is
-
 -- a long key that is taken where long keys are, and else a short one
 taken_by_either : (small large long short : Bool) → (small ≡ true → large ≡ true) → ((small && long) || short) ≡ true
     → ((large && long) || short) ≡ true
 taken_by_either true large long short wider is = ap (λ (takes : Bool). (takes && long) || short) (wider refl) ∙ is
-taken_by_either false large long short wider is = short_taken (large && long) short is
+taken_by_either false large long short wider is = or_right (large && long) short is
 
 module _ (small large : Edition) (up_to : IsUpTo small large) where
   -- a key that the smaller takes the larger takes
@@ -192,26 +189,13 @@ module _ (small large : Edition) (up_to : IsUpTo small large) where
 
 -- ---- an edition that takes long keys
 
--- the last refusal is none where its test fails
-last-never : (start offset own station none taken full slot empty encoding spent keys long : Bool) → long ≡ false
-    → ¬ (first ((Named StartRange, start) ∷ (Named OffsetChoice, offset) ∷ (Named OwnSci, own)
-    ∷ (Named EndStationSci, station) ∷ (Named NoChannel, none) ∷ (Named ChannelTaken, taken)
-    ∷ (Named ChannelsFull, full) ∷ (Named SlotTaken, slot) ∷ (Named SlotEmpty, empty) ∷ (Named InUse, encoding)
-    ∷ (Named KeySpent, spent) ∷ (Named SpentFull, keys) ∷ (LongKey, long) ∷ []) ≡ Some LongKey)
-last-never true offset own station none taken full slot empty encoding spent keys long fails is = cc
-last-never false true own station none taken full slot empty encoding spent keys long fails is = cc
-last-never false false true station none taken full slot empty encoding spent keys long fails is = cc
-last-never false false false true none taken full slot empty encoding spent keys long fails is = cc
-last-never false false false false true taken full slot empty encoding spent keys long fails is = cc
-last-never false false false false false true full slot empty encoding spent keys long fails is = cc
-last-never false false false false false false true slot empty encoding spent keys long fails is = cc
-last-never false false false false false false false true empty encoding spent keys long fails is = cc
-last-never false false false false false false false false true encoding spent keys long fails is = cc
-last-never false false false false false false false false false true spent keys long fails is = cc
-last-never false false false false false false false false false false true keys long fails is = cc
-last-never false false false false false false false false false false false true long fails is = cc
-last-never false false false false false false false false false false false false true fails is = cc
-last-never false false false false false false false false false false false false false fails is = cc
+-- a reason behind others is not the first that holds, where its test fails
+last-never : (rows : List (Refusal × Bool)) (long : Bool) → long ≡ false
+    → ¬ (first (map (λ (row : Refusal × Bool). (Named row.0, row.1)) rows ++ (LongKey, long) ∷ []) ≡ Some LongKey)
+last-never [] true fails is = cc
+last-never [] false fails is = cc
+last-never ((refusal, true) ∷ rows) long fails is = cc
+last-never ((refusal, false) ∷ rows) long fails is = last-never rows long fails is
 
 module _ (edition : Edition) (takes : edition.long_keys ≡ true) where
   -- a key of 16 octets or of 32 is taken
@@ -239,10 +223,11 @@ module _ (edition : Edition) (takes : edition.long_keys ≡ true) where
   pub never-long : (identity : Identity) (c : Config) (command : Command) → IsCommand command
       → ¬ (refusal_of edition identity c command ≡ Some LongKey)
   never-long identity c command is =
-      last-never (has_wrong_start command) (has_wrong_offset command) (is_own_sci identity command)
-      (is_wrong_end_station identity command)
-      (has_no_channel c command) (is_channel_taken c command) (are_channels_full edition c command)
-      (is_slot_taken c command)
-      (is_slot_empty c command) (is_in_use c command) (is_key_spent c command) (are_spent_full c command)
+      last-never ((StartRange, has_wrong_start command) ∷ (OffsetChoice, has_wrong_offset command)
+      ∷ (OwnSci, is_own_sci identity command) ∷ (EndStationSci, is_wrong_end_station identity command)
+      ∷ (NoChannel, has_no_channel c command) ∷ (ChannelTaken, is_channel_taken c command)
+      ∷ (ChannelsFull, are_channels_full edition c command) ∷ (SlotTaken, is_slot_taken c command)
+      ∷ (SlotEmpty, is_slot_empty c command) ∷ (InUse, is_in_use c command) ∷ (KeySpent, is_key_spent c command)
+      ∷ (SpentFull, are_spent_full c command) ∷ [])
       (is_long_key edition command)
       (none-long command is)

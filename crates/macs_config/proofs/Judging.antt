@@ -1,9 +1,8 @@
 -- What the check of a command judges, and what it makes of a configuration.
 use Rattle.std.proofs.Common.{◌≡◌, ◌==◌, ◌∙◌, ◌↔◌, ◌⊎◌, if◌then◌else◌, [], ◌∷◌, ◌||◌, ◌&&◌, ◌<◌, ℕ, List, Bool, true}
-use Rattle.std.proofs.Common.{false, not, nat_le, length, get_or, Option, Some, None, is_none, is_some, Result, Ok, Err}
-use Rattle.std.proofs.Common.{refl, sym, ap, arith, inl, inr}
-use Rattle.std.proofs.lemmas.Bool.{eq-eqb, ne_eqb}
-use Rattle.std.proofs.lemmas.List.{get_or_default}
+use Rattle.std.proofs.Common.{false, not, nat_le, length, Option, Some, None, is_none, is_some, Result, Ok, Err, refl}
+use Rattle.std.proofs.Common.{sym, ap, arith, inl, inr}
+use Rattle.std.proofs.lemmas.Bool.{ne_eqb}
 use Rattle.macs_aes.specs.Keys.{HasItsLength, key_of_octets, key_of_octets-octets_of_key, octets_of_key}
 use Rattle.macs_aes.specs.declared.keys.Key.{Key}
 use Rattle.macs_fields.specs.Fields.{octets_of}
@@ -51,9 +50,6 @@ changed-is c j is = sym (changed-after c (asked_by j) ∙ ap (config_changed c) 
 
 -- ---- what is read
 
-pub no-start : (start : ℕ) → (0 < start → ⊥) → (start == 0) ≡ true
-no-start start is = eq-eqb start 0 (omega arith)
-
 pub a-start : (start : ℕ) → 0 < start → (start == 0) ≡ false
 a-start start is = ne_eqb start 0 (λ e. omega arith)
 
@@ -68,10 +64,6 @@ no-protection-of true offset none = let e = (none (Confidentiality offset)).1 (r
 no-protection-of false Zero none = let e = (none Integrity).1 (refl, refl) in cc
 no-protection-of false Thirty none = refl
 no-protection-of false Fifty none = refl
-
-a-protection-of : (p : Protection) → is_wrong (is_confidential p) (octets_of (offset_of p)) ≡ false
-a-protection-of Integrity = refl
-a-protection-of (Confidentiality offset) = refl
 
 pub right-offset : (offset : Offset) → is_none (offset_at (octets_of offset)) ≡ false
 right-offset Zero = refl
@@ -100,22 +92,6 @@ module _ (confidential : Bool) (octets : ℕ) where
         → (None ≡ Some p) ↔ ((confidential ≡ is_confidential p) × (offset ≡ offset_of p)))
         → (is_none (offset_at octets) || is_wrong confidential octets) ≡ true
     no-protection none = chosen ∙ no-protection-of confidential offset none
-
-    pub a-protection : (p : Protection) → confidential ≡ is_confidential p → offset ≡ offset_of p
-        → (is_none (offset_at octets) || is_wrong confidential octets) ≡ false
-    a-protection p hidden clear = chosen ∙ (λ i. is_wrong (hidden i) (octets_of (clear i))) ∙ a-protection-of p
-
-pub an-offset : (octets : ℕ) (offset : Offset) → octets ≡ octets_of offset → is_none (offset_at octets) ≡ false
-an-offset octets offset is = ap (λ (n : ℕ). is_none (offset_at n)) is ∙ right-offset offset
-
--- what is at a place of the table, by a read with any default
-pub slot-is : (tx : List (Option TxSa)) (place an : ℕ) (other : Option TxSa) (result test : Bool) → place < length tx
-    → place ≡ an
-    → result ≡ is_some (get_or tx place other) → result ≡ test → is_some (get_or tx an None) ≡ test
-slot-is tx place an other result test within same is holds =
-    ap (λ (n : ℕ). is_some (get_or tx n None)) (sym same)
-    ∙ ap is_some (sym (get_or_default tx place other None within))
-    ∙ sym is ∙ holds
 
 -- ---- what is answered
 

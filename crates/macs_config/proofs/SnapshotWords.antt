@@ -1,7 +1,7 @@
 -- What is to be drawn of the parts of a snapshot.
 use Rattle.std.proofs.Common.{◌≡◌, ◌<◌, ◌+◌, ◌++◌, ◌&&◌, ℕ, Bool, true, false, cond, not, nat_le, nat_lt, List, [], ◌∷◌}
 use Rattle.std.proofs.Common.{length, Option, Some, None, is_none, bytes_eq, refl, ap, arith}
-use Rattle.std.proofs.lemmas.Bool.{le-ltb, lt-leb, or_left}
+use Rattle.std.proofs.lemmas.Bool.{and_left, and_right, le-ltb, lt-leb, not_from_true, or_left}
 use Rattle.std.specs.List.{list_all}
 use Rattle.macs_config.specs.Config.{Config, Edition, are_distinct, default, has_channel, is_among, max_spent, spent_of}
 use Rattle.macs_config.specs.Config.{takes_key}
@@ -14,17 +14,6 @@ use Rattle.macs_config.specs.declared.part.Part.TheVariants.{TxSa, Channel, RxSa
 use Rattle.macs_config.proofs.Channels.{bytes_eq-itself}
 
 -- ---- tests of which one fails
-
-no_left : (a b : Bool) → a ≡ false → (a && b) ≡ false
-no_left false b is = refl
-no_left true b is = cc
-
-no_right : (a b : Bool) → b ≡ false → (a && b) ≡ false
-no_right false b is = refl
-no_right true b is = is
-
-not-is : (b : Bool) → b ≡ true → not b ≡ false
-not-is b is = ap not is
 
 taken : {X : Type 0} (o : Option X) (x : X) → o ≡ Some x → is_none o ≡ false
 taken o x is = ap is_none is
@@ -44,55 +33,55 @@ module _ (edition : Edition) (identity : Identity) (c : Config) where
 not_new : (spent : List (List ℕ)) (one : List ℕ) (more : List (List ℕ)) → is_among spent one ≡ true
     → are_new spent (one ∷ more) ≡ false
 not_new spent one more is =
-    no_right (are_distinct (one ∷ more)) (list_all (λ item. not (is_among spent item)) (one ∷ more))
-    (no_left (not (is_among spent one)) (list_all (λ item. not (is_among spent item)) more)
-    (not-is (is_among spent one) is))
+    and_right (are_distinct (one ∷ more)) (list_all (λ item. not (is_among spent item)) (one ∷ more))
+    (and_left (not (is_among spent one)) (list_all (λ item. not (is_among spent item)) more)
+    (not_from_true (is_among spent one) is))
 
 -- nor is each where one comes twice
 twice : (spent : List (List ℕ)) (one : List ℕ) (more : List (List ℕ)) → are_new spent (one ∷ one ∷ more) ≡ false
 twice spent one more =
-    no_left (are_distinct (one ∷ one ∷ more)) (list_all (λ item. not (is_among spent item)) (one ∷ one ∷ more))
-    (no_left (not (is_among (one ∷ more) one)) (are_distinct (one ∷ more))
-    (not-is (is_among (one ∷ more) one) (or_left (bytes_eq one one) (is_among more one) (bytes_eq-itself one))))
+    and_left (are_distinct (one ∷ one ∷ more)) (list_all (λ item. not (is_among spent item)) (one ∷ one ∷ more))
+    (and_left (not (is_among (one ∷ more) one)) (are_distinct (one ∷ more))
+    (not_from_true (is_among (one ∷ more) one) (or_left (bytes_eq one one) (is_among more one) (bytes_eq-itself one))))
 
 pub part-words : PartWords
 part-words = record {
   tx_twice = λ edition identity c an before sa parts is. stopped edition identity c (TxSa an sa) parts
-      (no_left (is_none (c.tx an)) (takes_key edition sa.key) (taken (c.tx an) before is));
+      (and_left (is_none (c.tx an)) (takes_key edition sa.key) (taken (c.tx an) before is));
   tx_key = λ edition identity c an sa parts is. stopped edition identity c (TxSa an sa) parts
-      (no_right (is_none (c.tx an)) (takes_key edition sa.key) is);
+      (and_right (is_none (c.tx an)) (takes_key edition sa.key) is);
   channel_twice = λ edition identity c sci parts is. stopped edition identity c (Channel sci) parts
-      (no_left (not (bytes_eq sci identity.sci) && not (has_channel c sci))
+      (and_left (not (bytes_eq sci identity.sci) && not (has_channel c sci))
       (nat_lt (length c.channels) edition.channels)
-      (no_right (not (bytes_eq sci identity.sci)) (not (has_channel c sci)) (not-is (has_channel c sci) is)));
+      (and_right (not (bytes_eq sci identity.sci)) (not (has_channel c sci)) (not_from_true (has_channel c sci) is)));
   own_channel = λ edition identity c parts. stopped edition identity c (Channel identity.sci) parts
-      (no_left (not (bytes_eq identity.sci identity.sci) && not (has_channel c identity.sci))
+      (and_left (not (bytes_eq identity.sci identity.sci) && not (has_channel c identity.sci))
       (nat_lt (length c.channels) edition.channels)
-      (no_left (not (bytes_eq identity.sci identity.sci)) (not (has_channel c identity.sci))
-      (not-is (bytes_eq identity.sci identity.sci) (bytes_eq-itself identity.sci))));
+      (and_left (not (bytes_eq identity.sci identity.sci)) (not (has_channel c identity.sci))
+      (not_from_true (bytes_eq identity.sci identity.sci) (bytes_eq-itself identity.sci))));
   channels_full = λ edition identity c sci parts is. stopped edition identity c (Channel sci) parts
-      (no_right (not (bytes_eq sci identity.sci) && not (has_channel c sci))
+      (and_right (not (bytes_eq sci identity.sci) && not (has_channel c sci))
       (nat_lt (length c.channels) edition.channels)
       (le-ltb (length c.channels) edition.channels is));
   rx_twice = λ edition identity c sci an before sa parts is. stopped edition identity c (RxSa sci an sa) parts
-      (no_left (has_channel c sci && is_none (c.rx sci an)) (takes_key edition sa.key)
-      (no_right (has_channel c sci) (is_none (c.rx sci an)) (taken (c.rx sci an) before is)));
+      (and_left (has_channel c sci && is_none (c.rx sci an)) (takes_key edition sa.key)
+      (and_right (has_channel c sci) (is_none (c.rx sci an)) (taken (c.rx sci an) before is)));
   rx_key = λ edition identity c sci an sa parts is. stopped edition identity c (RxSa sci an sa) parts
-      (no_right (has_channel c sci && is_none (c.rx sci an)) (takes_key edition sa.key) is);
+      (and_right (has_channel c sci && is_none (c.rx sci an)) (takes_key edition sa.key) is);
   no_channel = λ edition identity c sci an sa parts is. stopped edition identity c (RxSa sci an sa) parts
-      (no_left (has_channel c sci && is_none (c.rx sci an)) (takes_key edition sa.key)
-      (no_left (has_channel c sci) (is_none (c.rx sci an)) is));
+      (and_left (has_channel c sci && is_none (c.rx sci an)) (takes_key edition sa.key)
+      (and_left (has_channel c sci) (is_none (c.rx sci an)) is));
   spent_twice = λ edition identity c role one more parts is. stopped edition identity c (Spent role (one ∷ more)) parts
-      (no_left (are_new (spent_of role c) (one ∷ more))
+      (and_left (are_new (spent_of role c) (one ∷ more))
       (nat_le (length (spent_of role c) + length (one ∷ more)) max_spent)
       (not_new (spent_of role c) one more is));
   spent_in_one = λ edition identity c role one more parts.
       stopped edition identity c (Spent role (one ∷ one ∷ more)) parts
-      (no_left (are_new (spent_of role c) (one ∷ one ∷ more))
+      (and_left (are_new (spent_of role c) (one ∷ one ∷ more))
       (nat_le (length (spent_of role c) + length (one ∷ one ∷ more)) max_spent) (twice (spent_of role c) one more));
   spent_full =
       λ edition identity c role fingerprints parts is. stopped edition identity c (Spent role fingerprints) parts
-      (no_right (are_new (spent_of role c) fingerprints)
+      (and_right (are_new (spent_of role c) fingerprints)
       (nat_le (length (spent_of role c) + length fingerprints) max_spent)
       (not_le (length (spent_of role c) + length fingerprints) max_spent is));
 }
@@ -104,11 +93,11 @@ not_ordered : (place : ℕ) (front : List Part) (second third : Part) (parts : L
     → place_of third < place_of second
     → are_ordered place (front ++ (second ∷ third ∷ parts)) ≡ false
 not_ordered place [] second third parts less =
-    no_right (nat_le place (place_of second)) (are_ordered (place_of second) (third ∷ parts))
-    (no_left (nat_le (place_of second) (place_of third)) (are_ordered (place_of third) parts)
+    and_right (nat_le place (place_of second)) (are_ordered (place_of second) (third ∷ parts))
+    (and_left (nat_le (place_of second) (place_of third)) (are_ordered (place_of third) parts)
     (not_le (place_of second) (place_of third) less))
 not_ordered place (part ∷ front) second third parts less =
-    no_right (nat_le place (place_of part)) (are_ordered (place_of part) (front ++ (second ∷ third ∷ parts)))
+    and_right (nat_le place (place_of part)) (are_ordered (place_of part) (front ++ (second ∷ third ∷ parts)))
     (not_ordered (place_of part) front second third parts less)
 
 module _ (edition : Edition) (identity : Identity) where
@@ -121,14 +110,14 @@ module _ (edition : Edition) (identity : Identity) where
 pub order-words : OrderWords
 order-words = record {
   first = λ edition identity part parts above. misplaced edition identity part parts
-      (no_left (nat_le (place_of part) 1) (are_ordered 2 parts) (not_le (place_of part) 1 above));
+      (and_left (nat_le (place_of part) 1) (are_ordered 2 parts) (not_le (place_of part) 1 above));
   ordered = λ edition identity part second third front parts less.
       misplaced edition identity part (front ++ (second ∷ third ∷ parts))
-      (no_right (nat_le (place_of part) 1) (are_ordered 2 (front ++ (second ∷ third ∷ parts)))
+      (and_right (nat_le (place_of part) 1) (are_ordered 2 (front ++ (second ∷ third ∷ parts)))
       (not_ordered 2 front second third parts less));
   settings = λ edition identity first second parts is. misplaced edition identity first (second ∷ parts)
-      (no_right (nat_le (place_of first) 1) (are_ordered 2 (second ∷ parts))
-      (no_left (nat_le 2 (place_of second)) (are_ordered (place_of second) parts)
+      (and_right (nat_le (place_of first) 1) (are_ordered 2 (second ∷ parts))
+      (and_left (nat_le 2 (place_of second)) (are_ordered (place_of second) parts)
       (not_le 2 (place_of second) (omega (arith, is)))));
   empty = λ edition identity. refl;
   places = λ validate replay mode encoding an tx sci rx fingerprints. (refl, refl, refl, refl, refl, refl);

@@ -1,5 +1,5 @@
 -- The disk on which the journal of the first edition is compacted, in an opening of this one that is cut short.
-use Rattle.std.proofs.Common.{◌-◌, refl, arith}
+use Rattle.std.proofs.Common.{refl, arith}
 use Rattle.macs_journal.specs.Value.{IsHolding}
 use Rattle.macs_headline.specs.ExampleCuts.{place_behind}
 use Rattle.macs_headline.specs.ExampleMigration.{beginning_disk, beginning_under_way, migrated_content, used_content}

@@ -1,5 +1,5 @@
 -- The disks of the example hold the work in which its lives are cut short, and what a power loss leaves of it.
-use Rattle.std.proofs.Common.{◌≡◌, ◌<◌, ◌+◌, ◌-◌, ◌==◌, ◌^◌, ◌&&◌, inl, inr, ℕ, zero, suc, Bool, true, false, cond}
+use Rattle.std.proofs.Common.{◌≡◌, ◌<◌, ◌-◌, ◌==◌, ◌^◌, ◌&&◌, inl, inr, ℕ, zero, suc, Bool, true, false, cond}
 use Rattle.std.proofs.Common.{List, [], ◌∷◌, ◌++◌, length, take, replicate, get_or, refl, sym, ap, subst, arith}
 use Rattle.std.specs.Prelude.{All, nat_lt}
 use Rattle.std.specs.List.{AllByRecursion}
@@ -36,9 +36,10 @@ use Rattle.macs_headline.specs.ExampleStanding.{served_config}
 use Rattle.macs_headline.specs.Images.{image_with_area, image_with_bodies, image_with_next_body, image_with_record}
 use Rattle.macs_headline.proofs.Built.{closed-gate}
 use Rattle.macs_headline.proofs.ExampleCompaction.{compacting, last-is}
-use Rattle.macs_headline.proofs.ExampleImages.{far-full, narrow-found, full-found, last-found, last-size, snapshot-size}
-use Rattle.macs_headline.proofs.ExampleRecords.{IsOctet, head-range, six_records, snapshot-is, snapshot-ranges}
-use Rattle.macs_headline.proofs.ExampleRecords.{widened-range, word-range}
+use Rattle.macs_headline.proofs.ExampleImages.{far-full, narrow-found, full-found, last-found, last-size, later-head}
+use Rattle.macs_headline.proofs.ExampleImages.{snapshot-size}
+use Rattle.macs_headline.proofs.ExampleRecords.{IsOctet, six_records, snapshot-is, snapshot-ranges, widened-range}
+use Rattle.macs_headline.proofs.ExampleRecords.{word-range}
 
 -- ---- sectors
 
@@ -179,23 +180,12 @@ head_write = record { at = head_body 1; octets = head_sector_of full_head }
 two_records : take 2 full_snapshot ≡ take 2 six_records
 two_records = ap (λ (rs : List Record). take 2 rs) snapshot-is
 
-head_range : IsHead full_head
-head_range = record {
-  generation = omega arith;
-  generations = omega arith;
-  some = omega (arith, snapshot-size);
-  few = omega (arith, snapshot-size);
-  sci = head-range.sci;
-  tx_block = head-range.tx_block;
-  rx_block = head-range.rx_block;
-}
-
 pub compacting-holds : IsHolding compacting_disk (place_behind full_content) compaction_under_way full_content
     compacted_content
 compacting-holds = record {
   at = record { area = refl; head = refl; free = refl };
   holds = compacting full_image full_content full_snapshot
-      (λ k lt. closed-gate full_image 1 k (far-full (gate 1 k) (omega arith))) full-found head_range
+      (λ k lt. closed-gate full_image 1 k (far-full (gate 1 k) (omega arith))) full-found later-head
       (subst (AllByRecursion IsRecord) (sym snapshot-is) snapshot-ranges) (omega (arith, snapshot-size))
       (omega (arith, snapshot-size));
 }
@@ -234,7 +224,7 @@ head-sector h is = record {
 }
 
 head_whole : IsSector (head_sector_of full_head)
-head_whole = head-sector full_head head_range
+head_whole = head-sector full_head later-head
 
 settings_whole : IsSector (sector_of (settings_record served_config))
 settings_whole = record_sector (settings_record served_config) snapshot-ranges.0 refl

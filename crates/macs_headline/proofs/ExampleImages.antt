@@ -46,7 +46,7 @@ use Rattle.macs_headline.specs.Images.{blank_image, image_while_formatted, image
 use Rattle.macs_headline.proofs.Built.{area-other, closed-gate, opened-found, opened-other, record-found, records-found}
 use Rattle.macs_headline.proofs.Built.{records-other}
 use Rattle.macs_headline.proofs.Later.{later-found, meaning-later, meaning-more, same-again, written-found}
-use Rattle.macs_headline.proofs.ExampleRecords.{first-ranges, head-range, second-ranges, snapshot-is, snapshot-ranges}
+use Rattle.macs_headline.proofs.ExampleRecords.{first-ranges, example-head, head-range, second-ranges, snapshot-is, snapshot-ranges}
 use Rattle.macs_headline.proofs.ExampleRecords.{third-ranges, widened-range}
 use Rattle.macs_headline.proofs.Places.{put-that, put_rx, put_rx-that}
 
@@ -187,20 +187,14 @@ cut_gates k le =
     (omega arith) (λ j lt. omega arith)
     ∙ far-full (gate 1 k) (omega arith))
 
-later_head : IsHead (next_head full_content.head (length full_snapshot))
-later_head = record {
-  generation = omega arith;
-  generations = omega arith;
-  some = omega (arith, snapshot-size);
-  few = omega (arith, snapshot-size);
-  sci = head-range.sci;
-  tx_block = head-range.tx_block;
-  rx_block = head-range.rx_block;
-}
+pub later-head : IsHead (next_head full_content.head (length full_snapshot))
+later-head =
+    example-head (next_head full_content.head (length full_snapshot)) refl (omega arith) (omega arith)
+    (omega (arith, snapshot-size)) (omega (arith, snapshot-size))
 
 pub new-generation : HasJournal later_image compacted_content
 new-generation =
-    later-found (cut_image 2) full_content (cut_found 2) 1 refl full_snapshot later_head (omega (arith, snapshot-size))
+    later-found (cut_image 2) full_content (cut_found 2) 1 refl full_snapshot later-head (omega (arith, snapshot-size))
     (subst (AllByRecursion IsRecord) (sym snapshot-is) snapshot-ranges) cut_gates
 
 -- ---- what the snapshot stands for

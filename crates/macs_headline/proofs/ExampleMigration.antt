@@ -71,7 +71,7 @@ use Rattle.macs_headline.proofs.ExampleFits.{away, rx_all, tx_second}
 use Rattle.macs_headline.proofs.ExampleFrames.{arrival, peer-arrives}
 use Rattle.macs_headline.proofs.ExampleHistory.{range_on, refused_by, same_steps, steps_on}
 use Rattle.macs_headline.proofs.ExampleImages.{both_at, both_some, default_config, next_config}
-use Rattle.macs_headline.proofs.ExampleRecords.{head-range, key-range, long-key-range, peer-range, print_range}
+use Rattle.macs_headline.proofs.ExampleRecords.{example-head, key-range, long-key-range, peer-range, print_range}
 use Rattle.macs_headline.proofs.ExampleRecords.{snapshot-ranges}
 use Rattle.macs_headline.proofs.ExampleStates.{outgoing}
 use Rattle.macs_headline.proofs.Lists.{each-same}
@@ -81,26 +81,12 @@ use Rattle.macs_headline.proofs.Places.{put-that, put_rx, put_rx-that}
 -- ---- images
 
 old_range : IsHead old_head
-old_range = record {
-  generation = omega arith;
-  generations = omega arith;
-  some = omega arith;
-  few = omega arith;
-  sci = head-range.sci;
-  tx_block = head-range.tx_block;
-  rx_block = head-range.rx_block;
-}
+old_range =
+    example-head old_head refl (omega arith) (omega arith) (omega arith) (omega arith)
 
 pub next_range : IsHead (next_head used_content.head 3)
-next_range = record {
-  generation = omega arith;
-  generations = omega arith;
-  some = omega arith;
-  few = omega arith;
-  sci = head-range.sci;
-  tx_block = head-range.tx_block;
-  rx_block = head-range.rx_block;
-}
+next_range =
+    example-head (next_head used_content.head 3) refl (omega arith) (omega arith) (omega arith) (omega arith)
 
 settings_range : AllByRecursion IsRecord (default_settings ∷ [])
 settings_range = ((omega arith, tt), tt)
@@ -256,38 +242,24 @@ one_closed = put_sector filled_image (gate 0 0) closed_gate
 abbrev two_closed : Image
 two_closed = put_sector one_closed (gate 0 2) closed_gate
 
+closes : (image : Image) (at i : ℕ) → (i ≢ at → image i ≡ zero_sector)
+    → put_sector image at closed_gate i ≡ zero_sector
+closes image at i other = elim (cases_eq i at) [
+  | inl same ↦ put-same image at i closed_gate same ∙ gate_zero
+  | inr apart ↦ put-other image at i closed_gate apart ∙ other apart
+]
+
 closed_other : (i : ℕ) → i ≢ gate 0 0 → i ≢ gate 0 2 → i ≢ gate 0 3 → closed_image i ≡ filled_image i
 closed_other i no_zero no_two no_three =
     put-other two_closed (gate 0 3) i closed_gate no_three ∙ put-other one_closed (gate 0 2) i closed_gate no_two
     ∙ put-other filled_image (gate 0 0) i closed_gate no_zero
 
-closed_first : closed_image (gate 0 0) ≡ zero_sector
-closed_first =
-    put-other two_closed (gate 0 3) (gate 0 0) closed_gate (omega arith)
-    ∙ put-other one_closed (gate 0 2) (gate 0 0) closed_gate (omega arith)
-    ∙ put-same filled_image (gate 0 0) (gate 0 0) closed_gate refl ∙ gate_zero
-
-closed_second : closed_image (gate 0 2) ≡ zero_sector
-closed_second =
-    put-other two_closed (gate 0 3) (gate 0 2) closed_gate (omega arith)
-    ∙ put-same one_closed (gate 0 2) (gate 0 2) closed_gate refl ∙ gate_zero
-
-closed_third : closed_image (gate 0 3) ≡ zero_sector
-closed_third = put-same two_closed (gate 0 3) (gate 0 3) closed_gate refl ∙ gate_zero
-
 closed_each : (k : ℕ) → k ≤ slots → closed_image (gate 0 k) ≡ zero_sector
-closed_each k le = elim (cases_eq k 0) [
-  | inl at_zero ↦ ap (λ (n : ℕ). closed_image (gate 0 n)) at_zero ∙ closed_first
-  | inr no_zero ↦ elim (cases_eq k 2) [
-    | inl at_two ↦ ap (λ (n : ℕ). closed_image (gate 0 n)) at_two ∙ closed_second
-    | inr no_two ↦ elim (cases_eq k 3) [
-      | inl at_three ↦ ap (λ (n : ℕ). closed_image (gate 0 n)) at_three ∙ closed_third
-      | inr no_three ↦
-          closed_other (gate 0 k) (omega (arith, no_zero)) (omega (arith, no_two)) (omega (arith, no_three))
-          ∙ filled_gate k le no_zero no_two no_three
-    ]
-  ]
-]
+closed_each k le =
+    closes two_closed (gate 0 3) (gate 0 k) (λ no_three.
+    closes one_closed (gate 0 2) (gate 0 k) (λ no_two.
+    closes filled_image (gate 0 0) (gate 0 k) (λ no_zero.
+    filled_gate k le (λ is. no_zero (ap (gate 0) is)) (λ is. no_two (ap (gate 0) is)) (λ is. no_three (ap (gate 0) is)))))
 
 shut : (k : ℕ) → k ≤ slots → ¬ IsGateOpen closed_image 0 k
 shut k le = closed-gate closed_image 0 k (closed_each k le)
@@ -321,15 +293,9 @@ six_ranges : AllByRecursion IsRecord six_records
 six_ranges = ((omega arith, omega arith), snapshot-ranges.1)
 
 again_head : IsHead (next_head filled_content.head (length filled_snapshot))
-again_head = record {
-  generation = omega arith;
-  generations = omega arith;
-  some = omega (arith, filled_size);
-  few = omega (arith, filled_size);
-  sci = head-range.sci;
-  tx_block = head-range.tx_block;
-  rx_block = head-range.rx_block;
-}
+again_head =
+    example-head (next_head filled_content.head (length filled_snapshot)) refl (omega arith) (omega arith)
+    (omega (arith, filled_size)) (omega (arith, filled_size))
 
 again_found : HasJournal again_image again_content
 again_found =
@@ -491,11 +457,12 @@ old_resumed edition up_to = resumed old_end (used_standing edition) up_to refl r
 up_to_this : IsUpTo first_edition this_edition
 up_to_this = record { channels = omega arith; long_keys = λ is. refl; format_two = λ is. refl }
 
-used_fits : (sectors : ℕ) → least_sectors ≤ sectors → Fits first_edition sectors used_image old_end
-used_fits sectors large = record {
-  found = used_standing first_edition;
-  is_found = (large, record { content = used_content; found = used_found; stands = used_first });
-  restart = inl (old_resumed first_edition (up-to-itself first_edition));
+fits_used : (edition : Edition) (sectors : ℕ) (image : Image) → IsUpTo first_edition edition
+    → StandingIs edition sectors image (Ok (used_standing edition)) → Fits edition sectors image old_end
+fits_used edition sectors image up_to is_found = record {
+  found = used_standing edition;
+  is_found = is_found;
+  restart = inl (old_resumed edition up_to);
 }
 
 old_history : (disk : Disk) → IsOldDisk disk → HasHistory first_edition disk old_lives
@@ -505,7 +472,8 @@ old_history disk is =
     let large : least_sectors ≤ disk.sectors = omega (arith, size) in
     settled-disks first_edition disk old_lives (Formatted old_end) used_image is.honest is.settled
     (past, formatted_life, (Formatted old_end, (old_end, old_life disk.sectors large, tt, refl), refl))
-    (used_fits disk.sectors large)
+    (fits_used first_edition disk.sectors used_image (up-to-itself first_edition)
+    (large, record { content = used_content; found = used_found; stands = used_first }))
 
 -- ---- the lives of this edition
 
@@ -662,26 +630,17 @@ tx_long true = (9, refl, omega arith, omega arith, omega arith)
 tx_long false = refl
 
 fits_begun : Fits this_edition example_sectors begun_image old_end
-fits_begun = record {
-  found = used_standing this_edition;
-  is_found = begun_is;
-  restart =
-      inl (old_resumed this_edition up_to_this);
-}
+fits_begun = fits_used this_edition example_sectors begun_image up_to_this begun_is
 
 -- during the compaction a power loss leaves the one or the other
 fits_either : (image : Image) → HasEitherJournal used_content migrated_content image
     → Fits this_edition example_sectors image old_end
-fits_either image (inl found) = record {
-  found = used_standing this_edition;
-  is_found = (omega arith, record { content = used_content; found = found; stands = used_this });
-  restart = inl (old_resumed this_edition up_to_this);
-}
-fits_either image (inr found) = record {
-  found = used_standing this_edition;
-  is_found = (omega arith, record { content = migrated_content; found = found; stands = migrated_meaning });
-  restart = inl (old_resumed this_edition up_to_this);
-}
+fits_either image (inl found) =
+    fits_used this_edition example_sectors image up_to_this
+    (omega arith, record { content = used_content; found = found; stands = used_this })
+fits_either image (inr found) =
+    fits_used this_edition example_sectors image up_to_this
+    (omega arith, record { content = migrated_content; found = found; stands = migrated_meaning })
 
 beginning_history : IsHolding beginning_disk (place_behind used_content) beginning_under_way used_content
     migrated_content

@@ -1,5 +1,6 @@
 -- The records of the example are in their ranges, and its snapshot has these six.
-use Rattle.std.proofs.Common.{◌≡◌, ◌<◌, ◌^◌, inl, inr, ℕ, zero, suc, List, [], ◌∷◌, replicate, refl, arith}
+use Rattle.std.proofs.Common.{◌≡◌, ◌<◌, ◌≤◌, ◌^◌, inl, inr, ℕ, zero, suc, List, [], ◌∷◌, replicate, refl, sym}
+use Rattle.std.proofs.Common.{subst, arith}
 use Rattle.std.specs.Prelude.{All, slice_index}
 use Rattle.std.specs.List.{AllByRecursion}
 use Rattle.std.specs.Int.{to_be_bytes, w32}
@@ -8,9 +9,10 @@ use Rattle.sha2.specs.Sha256.{digest_bytes, final_hash, initial_hash_256, sha256
 use Rattle.sha2.proofs.Facts256.{length-sha256}
 use Rattle.macs_fields.specs.Fields.{IsOctets, IsSci}
 use Rattle.macs_config.specs.Config.{rx_fingerprint, tx_fingerprint}
+use Rattle.macs_config.specs.Identity.{Identity, IsBlock}
 use Rattle.macs_config.specs.declared.command.Role.TheVariants.{Receive, Transmit}
 use Rattle.macs_config.specs.declared.command.Validate.TheVariants.{Strict}
-use Rattle.macs_record.specs.Heads.{IsHead}
+use Rattle.macs_record.specs.Heads.{Head, IsHead}
 use Rattle.macs_record.specs.Layout.{IsRecord}
 use Rattle.macs_record.specs.declared.record.Record.{Record}
 use Rattle.macs_record.specs.declared.record.Record.TheVariants as kept
@@ -62,16 +64,22 @@ print_range octets = record { size = length-sha256 octets; each = digest_range (
 
 -- ---- heads
 
-pub head-range : IsHead (first_head example_identity)
-head-range = record {
-  generation = omega arith;
-  generations = omega arith;
-  some = omega arith;
-  few = omega arith;
-  sci = own-range;
-  tx_block = (omega arith, omega arith);
-  rx_block = (omega arith, omega arith);
+-- one of the example's endpoint
+pub example-head : (head : Head) → head.identity ≡ example_identity → 0 < head.generation → head.generation < 2 ^ 64
+    → 1 ≤ head.count → head.count ≤ 256 → IsHead head
+example-head head same generation generations some few = record {
+  generation = generation;
+  generations = generations;
+  some = some;
+  few = few;
+  sci = subst (λ (identity : Identity). IsSci identity.sci) (sym same) own-range;
+  tx_block = subst (λ (identity : Identity). IsBlock identity.tx_block) (sym same) (omega arith, omega arith);
+  rx_block = subst (λ (identity : Identity). IsBlock identity.rx_block) (sym same) (omega arith, omega arith);
 }
+
+pub head-range : IsHead (first_head example_identity)
+head-range =
+    example-head (first_head example_identity) refl (omega arith) (omega arith) (omega arith) (omega arith)
 
 -- ---- records
 

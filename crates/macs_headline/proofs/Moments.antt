@@ -1,5 +1,5 @@
 -- An endpoint that lives is at a moment of a history: what the laws say of it, and where its medium may be passed on.
-use Rattle.std.proofs.Common.{◌≡◌, ◌≤◌, ◌⊎◌, ◌++◌, inl, inr, ℕ, ◌&&◌, List, []}
+use Rattle.std.proofs.Common.{◌≡◌, ◌≤◌, ◌⊎◌, ◌++◌, inl, inr, ℕ, List, []}
 use Rattle.std.proofs.Common.{◌∷◌, map, Option, Some, None, Ok, refl, sym, ◌∙◌, ap, subst, arith}
 use Rattle.std.proofs.lemmas.Bool.{cases_lt}
 use Rattle.macs_config.specs.Config.{Edition, IsUpTo, this_edition}

@@ -1,5 +1,5 @@
 -- Power losses that are played, and disks that are new.
-use Rattle.std.proofs.Common.{◌≡◌, ◌≢◌, ◌≤◌, ◌⊎◌, ◌+◌, arith, ◌++◌, ℕ, [], ◌∷◌}
+use Rattle.std.proofs.Common.{◌≡◌, ◌≤◌, ◌+◌, arith, ℕ}
 use Rattle.std.proofs.Common.{sym, ◌∙◌, ap, subst, le_refl}
 use Rattle.macs_disk.specs.Disk.{Disk, MayLeave, disk_after_loss, now}
 use Rattle.macs_disk.specs.Fuses.{fused_disk}

@@ -1,5 +1,4 @@
 -- The headline on commands that are refused: for the first reason that applies, and for no other.
-use Rattle.std.specs.Prelude.{◌≡◌, ◌≢◌, ◌⊎◌, ◌↔◌, ◌<◌, ◌≤◌, ◌+◌, ◌-◌, ◌^◌, ℕ, [], ◌∷◌}
 use Rattle.std.specs.Prelude.{Option}
 use Rattle.macs_config.specs.Apply.{Reason, refusal_of}
 use Rattle.macs_config.specs.declared.command.Command.{Command}

@@ -1,6 +1,6 @@
 -- What the channels show, after one of them has changed, came or went.
 use Rattle.std.proofs.Common.{◌≡◌, ◌∙◌, ◌<◌, ℕ, zero, suc, true, false, not, List, [], ◌∷◌, ◌++◌, length, map, take}
-use Rattle.std.proofs.Common.{drop, set, get_or, filter, Option, Some, None, refl, ap, sym, subst, arith}
+use Rattle.std.proofs.Common.{drop, set, get_or, filter, Option, Some, None, refl, ap, sym, subst}
 use Rattle.std.specs.Prelude.{position, slice_set}
 use Rattle.std.specs.List.{insert, list_any}
 use Rattle.std.specs.Option.{option_and_then, option_map}
@@ -26,7 +26,6 @@ use Rattle.macs_frame.specs.declared.tag.TagFault.TheVariants.{ForKay as IsForKa
 use Rattle.macs_rxsc.specs.Sound.{IsSoundRx}
 use Rattle.macs_rxsc.specs.Receive.{Numbers, IsOutcome, RxSide, Tag as TagStep, put_numbers, sci_named}
 use Rattle.macs_rxsc.specs.Receive.{standing_channel, verdict_at, numbers_under_window}
-use Rattle.macs_frame.specs.declared.tag.SecTag.{SecTag}
 use Rattle.macs_rxsc.specs.Counting.{channel_counters_after, counters_after_verdict_at, no_channel_counts}
 use Rattle.macs_rxsc.specs.Value.{ceilings_among, ceilings_in, channel_at, counters_among, counters_in, numbers_in}
 use Rattle.macs_rxsc.specs.Value.{packet_numbers, sa_of, sas_in, scis_of, rx_side_in, association_under, channel_under}
@@ -411,12 +410,6 @@ decided_some side ceilings frame channel i an new verdict given same within are 
     ∙ sym (put-placed packet_numbers channel.associations i new within) in
     subst (λ (f : ℕ → Option Numbers). IsOutcome side ceilings frame
     (record { verdict = verdict; given = given; numbers = put_at side.numbers channel.sci f })) changed received
-
--- an element, whatever is read past the end
-pub read_at : {X : Type 0} (xs : List X) (i : ℕ) (d e : X) → i < length xs → get_or xs i d ≡ get_or xs i e
-read_at [] i d e within = absurd (omega arith)
-read_at (x ∷ xs) zero d e within = refl
-read_at (x ∷ xs) (suc i) d e within = read_at xs i d e (omega arith)
 
 -- the channel none of whose associations has changed
 pub decided_same : (side : RxSide) (channel : Channel) (f : ℕ → Option Numbers) → f ≡ numbers_in (Some channel)

@@ -213,12 +213,6 @@ pub put_numbers-same : (f : List ℕ → ℕ → Option Numbers) (sci : List ℕ
     → put_numbers f sci an x ≡ f
 put_numbers-same f sci an x is = ap (put_at f sci) (put-same (f sci) an x is) ∙ put_at-same f sci (f sci) refl
 
--- what a test for a late number says
-pub late_parts : (on b : Bool) → (on && b) ≡ true → (on ≡ true) × (b ≡ true)
-late_parts true true both = (refl, refl)
-late_parts true false both = absurd (cc)
-late_parts false b both = absurd (cc)
-
 pub in_time_by : (on : Bool) (pn lowest : ℕ) → (on && nat_lt pn lowest) ≡ false → on ≡ true → ¬ (pn < lowest)
 in_time_by true pn lowest fails is late = let below : nat_lt pn lowest ≡ true = grind (arith, nat_tests) in absurd (cc)
 in_time_by false pn lowest fails is late = absurd (cc)

@@ -3,14 +3,9 @@ use Rattle.macs_config.specs.Apply.{answer_or_refusal, refusal_of}
 use Rattle.macs_config.specs.Config.{this_edition}
 use Rattle.macs_config.specs.Value.{config_in}
 use Rattle.macs_config.specs.declared.command.Command.{Command}
-use Rattle.macs_config.proofs.Judging.{a-start, no-start, rx-asked, rx-no-offset, rx-no-start}
+use Rattle.macs_config.proofs.Judging.{a-start, rx-asked, rx-no-offset}
 use Rattle.macs_config.proofs.OffsetChoice.{is_offset_at}
 use Rattle.macs_config.proofs.check.check_rx_install.Goals as goal
-
-pub returns-in_default : goal.returns-in_default
-returns-in_default c identity =
-    rx-no-start identity (config_in c.args.contents.now) c.args.sci c.args.an c.args.key.now c.args.start c.args.offset
-    (no-start c.args.start (λ more. let there = c.in_default.ensures.within.1 more in cc))
 
 pub returns-in_default-new : goal.returns-in_default-new
 returns-in_default-new c identity =

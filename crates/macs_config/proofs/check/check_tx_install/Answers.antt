@@ -4,15 +4,9 @@ use Rattle.macs_config.specs.Apply.{answer_or_refusal, refusal_of}
 use Rattle.macs_config.specs.Config.{this_edition}
 use Rattle.macs_config.specs.Value.{config_in}
 use Rattle.macs_config.specs.declared.command.Command.{Command}
-use Rattle.macs_config.proofs.Judging.{a-start, no-offset, no-protection, no-start, tx-asked, tx-no-offset, tx-no-start}
+use Rattle.macs_config.proofs.Judging.{a-start, no-offset, no-protection, tx-asked, tx-no-offset}
 use Rattle.macs_config.proofs.OffsetChoice.{is_offset_at}
 use Rattle.macs_config.proofs.check.check_tx_install.Goals as goal
-
-pub returns-in_default : goal.returns-in_default
-returns-in_default c identity =
-    tx-no-start identity (config_in c.args.contents.now) c.args.an c.args.key.now c.args.start c.args.confidential
-    c.args.offset
-    (no-start c.args.start (λ more. let there = c.in_default.ensures.within.1 more in cc))
 
 pub returns-in_default-new : goal.returns-in_default-new
 returns-in_default-new c identity =

@@ -8,12 +8,6 @@ use Rattle.macs_config.proofs.Refused.{handed_on}
 use Rattle.macs_config.proofs.config.Config.apply.Goals as goal
 use Rattle.macs_config.proofs.config.Config.apply.Goals.{After-apply_checked}
 
-pub apply_checked-requires : goal.apply_checked-requires
-apply_checked-requires c =
-    ap (λ (command : Command). refusal_of this_edition c.args.self.now.identity (config_of c.args.self.now) command)
-    c.in_ok-checked.ensures.checked
-    ∙ c.in_ok-checked.ensures.fits
-
 applied : (c : After-apply_checked)
     → apply this_edition c.args.self.now.identity (config_of c.args.self.now) c.args.command.now
     ≡ Ok (config_of c.apply_checked.new.self)
@@ -21,15 +15,6 @@ applied c =
     ap (λ (command : Command). apply this_edition c.args.self.now.identity (config_of c.args.self.now) command)
     (sym c.in_ok-checked.ensures.checked)
     ∙ c.apply_checked.ensures.applied
-
-pub returns-clause-applied : goal.returns-clause-applied
-returns-clause-applied c = applied (goal.at.returns-clause-applied c).After-apply_checked
-
-pub returns-clause-refused : goal.returns-clause-refused
-returns-clause-refused c refusal = (
-  λ e. cc,
-  λ e. let is = sym (applied (goal.at.returns-clause-refused c).After-apply_checked) ∙ e in cc,
-)
 
 pub returns-in_err-checked-clause-refused : goal.returns-in_err-checked-clause-refused
 returns-in_err-checked-clause-refused c =

@@ -1,5 +1,6 @@
 use Rattle.std.proofs.Common.{◌≡◌, ◌∙◌, ◌<◌, ℕ, List, true, false, cond, Some, None, refl, ap, sym}
 use Rattle.std.specs.Prelude.{◌&&◌, nat_lt}
+use Rattle.std.proofs.lemmas.Bool.{and_parts}
 use borrow.Author.Tests.{ltb-true}
 use Rattle.macs_config.specs.declared.command.Replay.{Replay}
 use Rattle.macs_frame.proofs.Readings.{verified_by_its_parts}
@@ -8,7 +9,7 @@ use Rattle.macs_frame.specs.Opening.{Verified}
 use Rattle.macs_frame.specs.Tag.{tag_of}
 use Rattle.macs_frame.specs.declared.tag.SecTag.{SecTag}
 use Rattle.macs_rxsc.proofs.Steps.{arrives, arrives_as, first_late, first_not_verified, in_time_by, is_delivered}
-use Rattle.macs_rxsc.proofs.Steps.{is_held, late_parts, put_numbers-same, settles, settles_bare}
+use Rattle.macs_rxsc.proofs.Steps.{is_held, put_numbers-same, settles, settles_bare}
 use Rattle.macs_rxsc.specs.Receive.{BelowLowest, Numbers, NotVerified, RxSide, numbers_after_delivery}
 use Rattle.macs_rxsc.specs.Receive.{numbers_after_hold, delivery_kind, put_numbers}
 use Rattle.macs_rxsc.specs.Value.{packet_numbers, sa_of}
@@ -32,7 +33,7 @@ in_time c fails side r on = in_time_by c.args.policy.replay.on (tag_of c.args.fr
 pub returns-then-is_late-clause-verdict : goal.returns-then-is_late-clause-verdict
 returns-then-is_late-clause-verdict c = λ side ceilings v r ch rx nu ce.
     let path = (goal.at.returns-then-is_late-clause-verdict c).After-is_late in
-    let parts = late_parts _ _ (sym (tested path) ∙ c.if-is_late.true) in
+    let parts = and_parts _ _ (sym (tested path) ∙ c.if-is_late.true) in
     settles side ceilings c.args.frame.now BelowLowest
     (first_late side c.args.frame.now c.args.parts.now c.requires.read c.args.sci ch (sa_of c.args.self.now)
     (packet_numbers c.args.self.now) rx nu

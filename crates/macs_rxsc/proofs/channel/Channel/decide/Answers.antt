@@ -1,9 +1,9 @@
 use Rattle.std.proofs.Common.{◌≡◌, ◌∙◌, ◌<◌, ℕ, List, Option, Some, None, get_or, length, refl, ap, subst, arith}
-use Rattle.std.proofs.lemmas.List.{set-get_or}
+use Rattle.std.proofs.lemmas.List.{get_or_default, set-get_or}
 use Rattle.std.specs.Option.{option_map}
 use Rattle.macs_frame.specs.Tag.{tag_of}
 use Rattle.macs_frame.specs.declared.tag.SecTag.{SecTag}
-use Rattle.macs_rxsc.proofs.Shown.{decided_same, decided_some, read_at}
+use Rattle.macs_rxsc.proofs.Shown.{decided_same, decided_some}
 use Rattle.macs_rxsc.proofs.Steps.{first_no_association, settles_bare}
 use Rattle.macs_rxsc.specs.Receive.{NoAssociation, Numbers}
 use Rattle.macs_rxsc.specs.Value.{numbers_in, packet_numbers, sa_of}
@@ -20,7 +20,7 @@ returns-in-Some-clause-verdict c = λ side ceilings v r ch rx nu ce.
     let within : c.get.result < length c.args.self.now.associations = omega arith in
     let read : get_or c.args.self.now.associations c.get.result c.index-self-get.result
     ≡ Some c.in-Some.association = cc in
-    let place = read_at c.args.self.now.associations c.get.result None c.index-self-get.result within ∙ read in
+    let place = get_or_default c.args.self.now.associations c.get.result None c.index-self-get.result within ∙ read in
     let there = subst (λ n. get_or c.args.self.now.associations n None ≡ Some c.in-Some.association) an place in
     decided_some side ceilings c.args.frame.now c.args.self.now c.get.result (tag_of c.args.frame.now).an _ _ _
     an within nu
@@ -39,7 +39,7 @@ returns-in-None-clause-verdict c = λ side ceilings v r ch rx nu ce.
     ∙ ap (λ (t : SecTag). t.an) c.requires.read.0.reading.tag in
     let within : c.get.result < length c.args.self.now.associations = omega arith in
     let read : get_or c.args.self.now.associations c.get.result c.index-self-get.result ≡ None = cc in
-    let place = read_at c.args.self.now.associations c.get.result None c.index-self-get.result within ∙ read in
+    let place = get_or_default c.args.self.now.associations c.get.result None c.index-self-get.result within ∙ read in
     let there = subst (λ n. get_or c.args.self.now.associations n None ≡ None) an place in
     settles_bare side ceilings c.args.frame.now NoAssociation NotUsingSa UnusedSa c.args.policy.validate
     (first_no_association side c.args.frame.now c.args.parts.now c.requires.read c.args.self.now.sci ch
