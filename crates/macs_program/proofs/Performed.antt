@@ -17,7 +17,7 @@ use Rattle.macs_program.specs.Inputs.{InputRead}
 use Rattle.macs_offline.specs.Inspecting.{InspectFails, Inspects, IsOfInspecting, PrintsFrames}
 use Rattle.macs_program.specs.Judging.{PrintsVerdicts}
 use Rattle.macs_offline.specs.Keys.{GivesKey, IsOfKey}
-use Rattle.macs_offline.specs.Plans.{PlanFails, PrintsPlan, end_of, stage_of}
+use Rattle.macs_offline.specs.Plans.{PlanFails, PrintsPlan}
 use Rattle.macs_program.specs.Run.{Does, FailsAs, Performs, Prints, WrongValues}
 use Rattle.macs_edge.specs.declared.capture_runs.Summary.{Summary}
 use Rattle.macs_commands.specs.declared.links.link.End.{End}
@@ -34,8 +34,6 @@ use Rattle.macs_cli.specs.declared.words.action.DiskAction.TheVariants.{Format, 
 use Rattle.macs_cli.specs.declared.words.action.FrameAction.TheVariants.{Protect, Validate, Relay}
 use Rattle.macs_cli.specs.declared.words.action.ToolAction.TheVariants.{Ask, Key, Inspect, Check, Plan, Examine, About}
 use Rattle.macs_cli.specs.declared.words.action.WireEnds.{WireEnds}
-use Rattle.macs_cli.specs.declared.words.plan_words.PlanEnd.{PlanEnd}
-use Rattle.macs_cli.specs.declared.words.plan_words.PlanStage.{PlanStage}
 use Rattle.macs_cli.specs.declared.words.action.Question.{Question}
 use Rattle.macs_cli.specs.declared.words.action.Question.TheVariants as question
 use Rattle.macs_cli.specs.declared.words.pace.Running.{Running}
@@ -410,17 +408,17 @@ module _ {F W : Type 0} (state_of : F → FileState) (left_in : F → Option (Li
     broken = broken;
   }
 
-  pub plans : (file : Bor (List ℕ)) (end : PlanEnd) (stage : PlanStage) → IfOk result
-      (λ status. PrintsPlan left_in (end_of end) (stage_of stage) (contents old) (contents new)
+  pub plans : (file : Bor (List ℕ)) (end : End) (stage : Stage) → IfOk result
+      (λ status. PrintsPlan left_in end stage (contents old) (contents new)
       × (status ≡ ends.Done))
-      → IfErr result (PlanFails left_in file.now (end_of end) (stage_of stage)) → Silent → Broken
+      → IfErr result (PlanFails left_in file.now end stage) → Silent → Broken
       → Performs state_of left_in contents failed (Tool (Plan file end stage)) input old result new
   plans file end stage done fails silent broken = record {
     does = done;
     status = IfOk-weaker result _ _ (λ status all. inl all.1) done;
     usage = IfErr-weaker result _ _
         (λ failure is usage.
-        absurd (planning-no-usage left_in file.now (end_of end) (stage_of stage) failure is usage)) fails;
+        absurd (planning-no-usage left_in file.now end stage failure is usage)) fails;
     disk = IfErr-weaker result _ _ (λ failure same disk. ((λ is. absurd cc), same disk)) (kept silent);
     before = before silent;
     fails = fails;

@@ -25,7 +25,7 @@ use Rattle.macs_cli.specs.Failing.{failure_of_words, failure_status, failure_tex
 use Rattle.macs_offline.specs.Inspecting.{InspectFails, Inspects, PrintsFrames}
 use Rattle.macs_program.specs.Judging.{JudgesIn, JudgingEndsIn, PrintsVerdicts, verdict_lines}
 use Rattle.macs_offline.specs.Keys.{GivesKey, IsOfKey}
-use Rattle.macs_offline.specs.Plans.{PlanFails, PrintsPlan, end_of, stage_of}
+use Rattle.macs_offline.specs.Plans.{PlanFails, PrintsPlan}
 use Rattle.macs_cli.specs.Help.{topic_text}
 use Rattle.macs_program.specs.Inputs.{InputRead, read_of}
 use Rattle.macs_program.specs.NewDisks.{FormatFails, Formats}
@@ -94,7 +94,7 @@ Does state_of left_in (Tool (Inspect from)) input before after status = Inspects
 Does state_of left_in (Tool (Check file disk)) input before after status =
     Checks state_of left_in disk before after status
 Does state_of left_in (Tool (Plan file end stage)) input before after status =
-    PrintsPlan left_in (end_of end) (stage_of stage) before after × (status ≡ ends.Done)
+    PrintsPlan left_in end stage before after × (status ≡ ends.Done)
 Does state_of left_in (Tool (Examine disk is_json)) input before after status =
     PrintsExamined state_of is_json before after status
 Does state_of left_in (Tool About) input before after status = Appends before after about_text × (status ≡ ends.Done)
@@ -171,7 +171,7 @@ FailsAs state_of left_in (Tool (Inspect from)) octets before after failure = Ins
 FailsAs state_of left_in (Tool (Check file disk)) octets before after failure =
     CheckEnds state_of left_in file.now disk failure
 FailsAs state_of left_in (Tool (Plan file end stage)) octets before after failure =
-    PlanFails left_in file.now (end_of end) (stage_of stage) failure
+    PlanFails left_in file.now end stage failure
 FailsAs state_of left_in (Tool (Examine disk is_json)) octets before after failure =
     ExamineFails state_of disk.now failure
 FailsAs state_of left_in (Tool About) octets before after failure = (failure ≡ Memory) ⊎ (failure ≡ Output)
