@@ -2,7 +2,7 @@
 use Rattle.std.proofs.Common.{◌≡◌, ◌∙◌, sym, Result, IsErr}
 use Rattle.macs_disk.specs.Disk.{Disk, IsDeviceCall}
 use Rattle.macs_disk.specs.Fuses.{FuseValue, IsCounted, disk_of_fuse, fuse_after_stopped_call}
-use Rattle.macs_disk.specs.declared.fuse.Blow.TheVariants.{EachCall, OneCall, NoCall}
+use Rattle.macs_disk.specs.declared.fuse.Blow.TheVariants.{EachCall}
 use Rattle.macs_disk.proofs.MissedCalls.{missed-by-fuse}
 
 -- it is missed

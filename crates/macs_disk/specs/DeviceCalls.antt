@@ -1,5 +1,5 @@
 -- A device call as a value, and what it leads a disk to, whoever makes it.
-use Rattle.std.specs.Prelude.{◌≡◌, ◌<◌, ℕ, List, Result}
+use Rattle.std.specs.Prelude.{◌<◌, ℕ, List, Result}
 use Rattle.macs_disk.specs.Disk.{Disk, IsDeviceCall, IsHonest, Reads, Syncs, Writes, now}
 use Rattle.macs_disk.specs.States.{DiskState}
 use Rattle.macs_disk.specs.declared.device_call.DeviceCall.{DeviceCall}

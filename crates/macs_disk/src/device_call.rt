@@ -1,7 +1,5 @@
 //! A device call as a value: what should be done, apart from doing it.
 
-ghost use Rattle.std.specs.Prelude.{◌≡◌};
-ghost use Rattle.macs_disk.specs.Disk.{Disk};
 ghost use Rattle.macs_disk.specs.DeviceCalls.{IsMade, IsWithin};
 
 use crate::disk::{DeviceFault, SectorDisk};

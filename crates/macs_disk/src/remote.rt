@@ -1,7 +1,6 @@
 //! A disk whose calls somebody else makes.
 
 ghost use Rattle.std.specs.Prelude.{◌≡◌, ◌<◌, ◌^◌, ℕ, List, Result, IsErr};
-ghost use Rattle.macs_disk.specs.Disk.{Disk};
 ghost use Rattle.macs_disk.specs.Fuses.{FuseValue, IsCounted, disk_of_fuse};
 ghost use Rattle.macs_disk.specs.Fuses.{fuse_after_stopped_call};
 ghost use Rattle.macs_disk.specs.DeviceCalls.{IsMade};

@@ -1,22 +1,20 @@
 -- What the work under way makes of a device call, whoever made it.
-use Rattle.std.proofs.Common.{◌≡◌, ◌<◌, ◌≤◌, ◌+◌, ◌↔◌, ℕ, refl, sym, ◌∙◌, ap, subst, arith, true, false, List, length}
-use Rattle.std.proofs.Common.{Option, Some, None, Result, Ok, Err, OnOk, is_err, IsTrue, Bool}
-use Rattle.macs_disk.specs.Disk.{Disk, IsDeviceCall, IsHonest, Reads, Syncs, Writes, now}
+use Rattle.std.proofs.Common.{◌≡◌, ◌<◌, ◌+◌, ◌↔◌, ℕ, refl, sym, ◌∙◌, ap, subst, true, false, List, length}
+use Rattle.std.proofs.Common.{Option, Some, None, Result, Ok, Err, is_err, IsTrue, Bool}
+use Rattle.macs_disk.specs.Disk.{Disk, IsDeviceCall, IsHonest, now}
 use Rattle.macs_disk.specs.DeviceCalls.{DoesCall, IsMade}
-use Rattle.macs_disk.specs.States.{DiskState, Image, IsSound}
+use Rattle.macs_disk.specs.States.{DiskState, IsSound}
 use Rattle.macs_disk.specs.declared.device_call.DeviceCall.{DeviceCall}
 use Rattle.macs_disk.specs.declared.device_call.DeviceCall.TheVariants.{Read, Write, Sync}
 use Rattle.macs_disk.specs.declared.disk.DeviceFault.{DeviceFault}
-use Rattle.macs_record.specs.Decoding.{IsSectorOf}
 use Rattle.macs_record.specs.Gates.{IsOpen, closed_gate, open_gate}
 use Rattle.macs_record.specs.Heads.{Head}
 use Rattle.macs_record.specs.declared.record.Record.{Record}
 use Rattle.macs_journal.specs.Appending.{DoesAppend, next_append}
 use Rattle.macs_journal.specs.Areas.{gate, head_body, other_area, slot_body, slots}
-use Rattle.macs_journal.specs.Halves.{IsCompactCall, IsNextCall, append_call}
+use Rattle.macs_journal.specs.Halves.{IsCompactCall, append_call}
 use Rattle.macs_journal.specs.Stages.{AtNextStage, AtStage, Does, IsCompactStage, IsUnderWay, next_stage}
 use Rattle.macs_journal.specs.Stepping.{AdvancesAppend, AdvancesCompact, step_of}
-use Rattle.macs_journal.specs.Value.{JournalValue, is_stopped, IsIdle}
 use Rattle.macs_journal.specs.declared.appending.AppendStage.{AppendStage}
 use Rattle.macs_journal.specs.declared.appending.AppendStage.TheVariants as append
 use Rattle.macs_journal.specs.declared.compact_stage.CompactStage.{CompactStage}

@@ -1,5 +1,5 @@
 -- A step in two halves: the device call that comes next, and what it led to, whoever made it.
-use Rattle.std.specs.Prelude.{◌≡◌, ◌+◌, ℕ, false, List, Result, Ok, OnOk, OnErr, is_err}
+use Rattle.std.specs.Prelude.{◌≡◌, ◌+◌, ℕ, List, Result, Ok, OnOk, OnErr, is_err}
 use Rattle.macs_disk.specs.Disk as disk
 use Rattle.macs_disk.specs.DeviceCalls.{IsMade}
 use Rattle.macs_disk.specs.declared.device_call.DeviceCall.{DeviceCall}

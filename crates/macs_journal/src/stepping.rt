@@ -1,6 +1,6 @@
 //! A journal's work, one device call at a time.
 
-ghost use Rattle.std.specs.Prelude.{◌≡◌, ◌<◌, ◌≤◌, ◌↔◌, length, IsTrue};
+ghost use Rattle.std.specs.Prelude.{◌<◌, ◌≤◌, ◌↔◌, length, IsTrue};
 ghost use Rattle.macs_journal.specs.Areas.{slots};
 ghost use Rattle.macs_journal.specs.Stepping.{Appends, FitsWork, Compaction};
 ghost use Rattle.macs_journal.specs.Stepping.{Starts, Steps, task_of};

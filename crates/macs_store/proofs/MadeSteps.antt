@@ -1,14 +1,14 @@
 -- What the journal of a store with work under way is lent, and what it makes of a call.
-use Rattle.std.proofs.Common.{◌≡◌, ◌≢◌, ◌∙◌, false, sym, ap, subst, List, length}
+use Rattle.std.proofs.Common.{◌≡◌, ◌∙◌, false, sym, ap, subst, List, length}
 use Rattle.macs_record.specs.Heads.{Head}
 use Rattle.macs_record.specs.declared.record.Record.{Record}
-use Rattle.macs_journal.specs.Compacted.{next_head}
 use Rattle.macs_journal.specs.Stepping.{CompactsWith, IsAppendUnderWay, IsSameTask, place_then}
 use Rattle.macs_journal.specs.Value.{AreLent, JournalValue, is_stopped}
 use Rattle.macs_journal.specs.Value as journal
 use Rattle.macs_journal.specs.declared.under_way.UnderWay as declared
 use Rattle.macs_journal.specs.declared.under_way.UnderWay.TheVariants as under_way
 use Rattle.macs_journal.specs.declared.place.Place.{Place}
+use Rattle.macs_journal.proofs.Tasks.{still-appends}
 use Rattle.macs_store.specs.Snapshot.{snapshot}
 use Rattle.macs_store.specs.Standing.{Standing}
 use Rattle.macs_store.specs.UnderWay.{Appending, Compacting, Nothing, UnderWay}
@@ -25,18 +25,12 @@ compaction-lent place under_way.Nothing records is = absurd is
 compaction-lent place (under_way.Append work) records is = absurd is
 compaction-lent place (under_way.Compact work) records is = ap (λ (h : Head). h.count) is
 
-compaction-slots : (place : Place) (h : declared.UnderWay) (records : List Record) → CompactsWith place h records
+-- as many slots are used after a compaction as there are records
+pub compaction-slots : (place : Place) (h : declared.UnderWay) (records : List Record) → CompactsWith place h records
     → (place_then place h).free ≡ length records
 compaction-slots place under_way.Nothing records is = absurd is
 compaction-slots place (under_way.Append work) records is = absurd is
 compaction-slots place (under_way.Compact work) records is = ap (λ (h : Head). h.count) (sym is)
-
-same-append : (h later : declared.UnderWay) → IsSameTask h later → IsAppendUnderWay h → IsAppendUnderWay later
-same-append (under_way.Append work) (under_way.Append other) same is = tt
-same-append (under_way.Append work) under_way.Nothing same is = absurd same
-same-append (under_way.Append work) (under_way.Compact other) same is = absurd same
-same-append under_way.Nothing later same is = absurd is
-same-append (under_way.Compact work) later same is = absurd is
 
 same-compaction : (place : Place) (h later : declared.UnderWay) (records : List Record) → IsSameTask h later
     → CompactsWith place h records → CompactsWith place later records
@@ -91,7 +85,7 @@ pub still-fits : {D : Type 0} (j later : JournalValue D) (standing : Standing) (
     → later.place ≡ j.place → FitsUnderWay later standing u
 still-fits j later standing Nothing busy fits runs same place = absurd (busy (λ i. Nothing))
 still-fits j later standing (Appending r) busy fits runs same place =
-    (runs, fits.1, same-append j.under_way later.under_way same fits.2)
+    (runs, fits.1, still-appends j.under_way later.under_way same fits.2)
 still-fits j later standing (Compacting r) busy fits runs same place = (
   runs,
   fits.1,

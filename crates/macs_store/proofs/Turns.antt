@@ -1,5 +1,5 @@
 -- One step of a store, from what its journal answers.
-use Rattle.std.proofs.Common.{◌≡◌, ◌≢◌, ◌≤◌, ◌+◌, ◌∙◌, ℕ, true, false, Bool, List, length}
+use Rattle.std.proofs.Common.{◌≡◌, ◌≢◌, ◌≤◌, ◌+◌, ◌∙◌, ℕ, true, false, List, length}
 use Rattle.std.proofs.Common.{Some, Result, Ok, Err, inl, inr, refl, ap, sym, subst, arith}
 use Rattle.macs_config.specs.Config.{this_edition}
 use Rattle.macs_disk.specs.Disk.{Disk, IsDeviceCall, IsHonest}
@@ -33,6 +33,7 @@ use Rattle.macs_store.specs.Value.{generation_with, is_stopped, slots_with, snap
 use Rattle.macs_store.specs.Value.{standing_then, standing_with}
 use Rattle.macs_store.specs.UnderWay.{UnderWay}
 use Rattle.macs_store.specs.UnderWay.{Appending, Nothing, Compacting}
+use Rattle.macs_store.proofs.MadeSteps.{compaction-slots}
 use Rattle.macs_store.proofs.Started.{task-appends}
 use Rattle.macs_store.proofs.Keeping.{either-image, held-within, under_way-image, standing-with, stored-image}
 
@@ -313,14 +314,7 @@ module _ {D : Type 0} (disk_of : D → Disk) (s : StoreValue D) (runs : is_stopp
       subst (λ (h : journal_under_way.UnderWay). CompactsWith s.journal.place h (snapshot (standing_in s)))
       idle compacts
 
-  -- as many slots as the snapshot has records are used, in the next generation
-  compaction-slots : (place : Place) (under_way : journal_under_way.UnderWay) (records : List Record)
-      → CompactsWith place under_way records
-      → (place_then place under_way).free ≡ length records
-  compaction-slots place journal_work.Nothing records is = absurd is
-  compaction-slots place (journal_work.Append work) records is = absurd is
-  compaction-slots place (journal_work.Compact work) records is = ap (λ h. h.count) (sym is)
-
+  -- in the next generation
   compaction-generation : (place : Place) (under_way : journal_under_way.UnderWay) (records : List Record)
       → CompactsWith place under_way records
       → (place_then place under_way).head.generation ≡ place.head.generation + 1

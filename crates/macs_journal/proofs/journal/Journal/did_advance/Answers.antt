@@ -1,4 +1,3 @@
-use Rattle.std.proofs.Common.{◌≡◌}
 use Rattle.macs_journal.specs.Halves.{with_device}
 use Rattle.macs_journal.proofs.Advancing.{append-advances}
 use Rattle.macs_journal.proofs.journal.Journal.did_advance.Goals as goal

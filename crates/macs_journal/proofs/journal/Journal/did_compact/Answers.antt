@@ -1,7 +1,6 @@
-use Rattle.std.proofs.Common.{◌≡◌, ◌∙◌, ℕ, ap, false, refl, sym, Some, None, Option}
+use Rattle.std.proofs.Common.{◌≡◌, ◌∙◌, ℕ, ap, false, refl, sym}
 use Rattle.macs_journal.specs.Stages.{IsCompactStage, next_stage}
 use Rattle.macs_journal.specs.Value.{FitsUnderWay}
-use Rattle.macs_journal.specs.declared.compact_stage.CompactStage.{CompactStage}
 use Rattle.macs_journal.specs.declared.under_way.UnderWay.TheVariants.{Compact, Nothing}
 use Rattle.macs_journal.proofs.MadeCalls.{did-compact-ends, did-compact-goes_on, did-compact-stops}
 use Rattle.macs_journal.proofs.journal.Journal.did_compact.Given.{Over}

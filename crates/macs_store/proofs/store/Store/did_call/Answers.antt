@@ -1,11 +1,9 @@
-use Rattle.std.proofs.Common.{◌≡◌, ◌≢◌, ◌∙◌, ◌<◌, Ok, Result, ap, sym, subst, refl, arith}
-use Rattle.macs_disk.specs.DeviceCalls.{IsMade}
-use Rattle.macs_disk.specs.declared.device_call.DeviceCall.{DeviceCall}
+use Rattle.std.proofs.Common.{◌≡◌, ◌≢◌, ◌∙◌, Ok, Result, ap, sym, subst, refl, arith}
 use Rattle.macs_journal.specs.Value.{AreLent}
 use Rattle.macs_journal.specs.declared.fault.JournalFault.{JournalFault}
 use Rattle.macs_journal.specs.declared.work.JournalStep.{JournalStep}
 use Rattle.macs_journal.specs.declared.work.JournalStep.TheVariants.{Finished, Going, Idle}
-use Rattle.macs_store.specs.Halves.{Did, IsNextCall, with_device}
+use Rattle.macs_store.specs.Halves.{Did, with_device}
 use Rattle.macs_store.specs.Snapshot.{snapshot}
 use Rattle.macs_store.specs.Table.{standing_of}
 use Rattle.macs_store.specs.UnderWay.{Appending, Compacting, under_way_of, record_kept}
@@ -15,7 +13,7 @@ use Rattle.macs_store.specs.declared.under_way.UnderWay.{UnderWay}
 use Rattle.macs_store.proofs.MadeSteps.{at-work, free-then, lent, runs, still-fits}
 use Rattle.macs_store.proofs.Turns.{JournalSteps, step-compacted, step-failed, step-kept, step-on}
 use Rattle.macs_store.proofs.store.Store.did_call.Given.{Over}
-use Rattle.macs_store.proofs.store.Store.did_call.Goals.{After-did_call, After-facts}
+use Rattle.macs_store.proofs.store.Store.did_call.Goals.{After-facts}
 use Rattle.macs_store.proofs.store.Store.did_call.Goals as goal
 
 abbrev went : JournalStep → Result JournalStep JournalFault

@@ -1,5 +1,5 @@
 use Rattle.std.proofs.Common.{◌≡◌, ◌∙◌, inl, inr, true, false, sym, subst}
-use Rattle.macs_store.specs.Halves.{IsNextCall, with_device}
+use Rattle.macs_store.specs.Halves.{IsNextCall}
 use Rattle.macs_store.specs.Stepping.{Steps}
 use Rattle.macs_store.specs.Value.{IsIdle, StoreValue, device_in, is_stopped}
 use Rattle.macs_store.proofs.Turns.{rests-idle, rests-stopped}
