@@ -34,12 +34,12 @@ pub asks_nothing : (told : List Text) (asked : Option Topic) → asked ≡ None
     → ((topic : Topic) → (asked ≡ Some topic) ↔ AsksFor told topic) → AsksForNothing told
 asks_nothing told asked none exactly = λ topic asks. let e = (exactly topic).1 asks in cc
 
-module _ {F R W : Type 0} (state_of : F → FileState) (left_in : F → Option (List ℕ))
+module _ {F R W T : Type 0} (state_of : F → FileState) (left_in : F → Option (List ℕ))
     (remaining : R → Option (List ℕ)) (read_failed : R → Bool) (contents : W → Option (List ℕ)) (failed : W → Bool)
     (told : List Text) (input : R) (old : W) where
   -- help is printed
   pub helps : (topic : Topic) (new : W) → AsksFor told topic → Appends (contents old) (contents new) (topic_text topic)
-      → Acts state_of left_in remaining read_failed contents failed told input old (Ok ends.Done) input new
+      → Acts T state_of left_in remaining read_failed contents failed told input old (Ok ends.Done) input new
   helps topic new asked printed = record {
     replied = inl (topic, asked, printed, refl);
     status = inl refl;
@@ -54,7 +54,7 @@ module _ {F R W : Type 0} (state_of : F → FileState) (left_in : F → Option (
 
   -- and where it cannot be
   unhelped : (topic : Topic) (new : W) → AsksFor told topic → failed new ≡ true
-      → Acts state_of left_in remaining read_failed contents failed told input old (Err Output) input new
+      → Acts T state_of left_in remaining read_failed contents failed told input old (Err Output) input new
   unhelped topic new asked broken = record {
     replied = tt;
     status = tt;
@@ -69,15 +69,16 @@ module _ {F R W : Type 0} (state_of : F → FileState) (left_in : F → Option (
 
   pub help-fails : (topic : Topic) (failure : Failure) (result : Result Status Failure) (new : W) → AsksFor told topic
       → result ≡ Err failure → failure ≡ Output → failed new ≡ true
-      → Acts state_of left_in remaining read_failed contents failed told input old result input new
+      → Acts T state_of left_in remaining read_failed contents failed told input old result input new
   help-fails topic failure result new asked is same broken =
       subst (λ (r : Result Status Failure).
-      Acts state_of left_in remaining read_failed contents failed told input old r input new)
+      Acts T state_of left_in remaining read_failed contents failed told input old r input new)
       (sym (subst (λ (f : Failure). result ≡ Err f) same is)) (unhelped topic new asked broken)
 
   refused : (fault : UsageFault) → (failure_status (failure_of_words fault) ≡ ends.Usage → AreRefused told)
       → AsksForNothing told
-      → Acts state_of left_in remaining read_failed contents failed told input old (Err (failure_of_words fault)) input
+      → Acts T state_of left_in remaining read_failed contents failed told input old
+      (Err (failure_of_words fault)) input
       old
   refused fault wrong nothing = record {
     replied = tt;
@@ -95,18 +96,18 @@ module _ {F R W : Type 0} (state_of : F → FileState) (left_in : F → Option (
   pub refuses : (fault : UsageFault) (failure : Failure) (result : Result Status Failure) → result ≡ Err failure
       → failure ≡ failure_of_words fault
       → (failure_status (failure_of_words fault) ≡ ends.Usage → AreRefused told) → AsksForNothing told
-      → Acts state_of left_in remaining read_failed contents failed told input old result input old
+      → Acts T state_of left_in remaining read_failed contents failed told input old result input old
   refuses fault failure result is same wrong nothing =
       subst (λ (r : Result Status Failure).
-      Acts state_of left_in remaining read_failed contents failed told input old r input old)
+      Acts T state_of left_in remaining read_failed contents failed told input old r input old)
       (sym (subst (λ (f : Failure). result ≡ Err f) same is)) (refused fault wrong nothing)
 
   -- the action that they name is performed
   pub obeys : (action : Action) (result : Result Status Failure) (left : R) (new : W) → takes macsecd told ≡ true
       → Names (subcommand_of macsecd told) action → AsksForNothing told
-      → Performs state_of left_in contents failed action (read_of remaining read_failed input left) old result new
+      → Performs T state_of left_in contents failed action (read_of remaining read_failed input left) old result new
       → (action ≢ Open → left ≡ input)
-      → Acts state_of left_in remaining read_failed contents failed told input old result left new
+      → Acts T state_of left_in remaining read_failed contents failed told input old result left new
   obeys action result left new known names nothing performs unread = record {
     replied = IfOk-weaker result _ _ (λ status done. inr (known, action, names, done)) performs.does;
     status = performs.status;

@@ -10,8 +10,10 @@ use Rattle.macs_config.specs.declared.refusal.Refusal.{Refusal}
 use Rattle.macs_commands.specs.Requests.{request_line}
 use Rattle.macs_commands.specs.declared.requests.request.Request.{Request}
 use Rattle.macs_commands.specs.declared.requests.request.Request.TheVariants as request
-use Rattle.macs_control.specs.Asking.{Conversation, ReadsSome, Sends, SendsSome}
-use Rattle.macs_control.proofs.Asked.{reads-none}
+use Rattle.macs_control.specs.Asking.{Conversation, ReadsNoEnd, ReadsSome, Sends, SendsSome}
+use Rattle.macs_control.specs.declared.asking.AskFault.{AskFault}
+use Rattle.macs_control.specs.declared.asking.AskFault.TheVariants as asking
+use Rattle.macs_cli.specs.Failing.{failure_of_asking}
 use Rattle.macs_offline.specs.Applying.{SaidByFile, outcome_line, outcome_lines}
 use Rattle.macs_offline.proofs.Applied.{lines-more, parted, status-more}
 use Rattle.macs_program.specs.Asking.{AppliesEach, AppliesFile, Asks, AsksAll, AsksEach, AsksInVain, AsksOne, AsksSome}
@@ -36,19 +38,12 @@ module _ (old : Option Conversation) (asked : Request) where
       → SendsSome old (line ++ 10 ∷ []) new → SendsSome old (request_line asked ++ 10 ∷ []) new
   line-cut new line is cut = subst (λ (l : List ℕ). SendsSome old (l ++ 10 ∷ []) new) is cut
 
-  -- then nothing is read
-  pub vain-sent : (new : Option Conversation) → SendsSome old (request_line asked ++ 10 ∷ []) new
-      → AsksInVain old asked new
-  vain-sent new cut = (new, cut, ([], false, reads-none new))
-
-  -- it is sent, and a part of an answer is read
-  pub vain-read : (between new : Option Conversation) → Sends old (request_line asked ++ 10 ∷ []) between
-      → ReadsSome between new → AsksInVain old asked new
-  vain-read between new sent read = (
-    between,
-    (request_line asked ++ 10 ∷ [], [], sym (append-nil (request_line asked ++ 10 ∷ [])), sent),
-    read,
-  )
+  -- it is sent, and no answer is read
+  pub vain-read : (between new : Option Conversation) (fault : AskFault) (failure : Failure)
+      → failure ≡ failure_of_asking fault → Sends old (request_line asked ++ 10 ∷ []) between
+      → ReadsSome between new → (fault ≡ asking.Gone → ReadsNoEnd between new) → AsksInVain old asked failure new
+  vain-read between new asking.Memory failure is sent read gone = inr (between, sent, inl (is, read))
+  vain-read between new asking.Gone failure is sent read gone = inr (between, sent, inr (is, gone refl))
 
 -- ---- an answer to a command
 

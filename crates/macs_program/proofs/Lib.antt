@@ -4,6 +4,7 @@ pub mod Captured
 pub mod Codes
 pub mod Complaining
 pub mod Conversed
+pub mod DeskMade
 pub mod EachLine
 pub mod Failed
 pub mod InFiles

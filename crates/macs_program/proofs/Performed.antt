@@ -142,7 +142,7 @@ applied-status outcomes status is = elim (done-or-refused (list_any is_some outc
   | inr refused ↦ inr (is ∙ refused)
 ]
 
-module _ {F W : Type 0} (state_of : F → FileState) (left_in : F → Option (List ℕ))
+module _ {F W : Type 0} (T : Type 0) (state_of : F → FileState) (left_in : F → Option (List ℕ))
     (contents : W → Option (List ℕ)) (failed : W → Bool) (input : InputRead) (old : W)
     (result : Result Status Failure) (new : W) where
   -- it is no wrong usage
@@ -170,8 +170,8 @@ module _ {F W : Type 0} (state_of : F → FileState) (left_in : F → Option (Li
   pub opens : IfOk result (λ status. IfSome input.octets (λ octets. Prints octets (contents old) (contents new) status))
       → IfOk result (λ status. (status ≡ ends.Done) ⊎ (status ≡ ends.Refused))
       → IfErr result (λ failure. failure_status failure ≡ ends.Fault) → Silent
-      → IfErr result (FailsAs state_of left_in Open input (contents old) (contents new)) → Broken
-      → Performs state_of left_in contents failed Open input old result new
+      → IfErr result (FailsAs T state_of left_in Open input (contents old) (contents new)) → Broken
+      → Performs T state_of left_in contents failed Open input old result new
   opens printed status is_fault silent fails broken = record {
     does = printed;
     status = status;
@@ -184,14 +184,14 @@ module _ {F W : Type 0} (state_of : F → FileState) (left_in : F → Option (Li
 
   pub formats : (disk sci : Bor (List ℕ)) (tx_block rx_block : ℕ) (block : Option (Bor (List ℕ))) (is_over : Bool)
       → IfOk result
-      (Does state_of left_in (OnDisk (Format disk sci tx_block rx_block block is_over)) input (contents old)
+      (Does T state_of left_in (OnDisk (Format disk sci tx_block rx_block block is_over)) input (contents old)
       (contents new))
       → IfErr result (λ failure. failure_status failure ≡ ends.Usage
       → WrongValues (OnDisk (Format disk sci tx_block rx_block block is_over)) × (new ≡ old)) → Silent
       → IfErr result
-      (FailsAs state_of left_in (OnDisk (Format disk sci tx_block rx_block block is_over)) input (contents old)
+      (FailsAs T state_of left_in (OnDisk (Format disk sci tx_block rx_block block is_over)) input (contents old)
       (contents new)) → Broken
-      → Performs state_of left_in contents failed (OnDisk (Format disk sci tx_block rx_block block is_over)) input
+      → Performs T state_of left_in contents failed (OnDisk (Format disk sci tx_block rx_block block is_over)) input
       old result new
   formats disk sci tx_block rx_block block is_over done usage silent fails broken = record {
     does = done;
@@ -205,11 +205,12 @@ module _ {F W : Type 0} (state_of : F → FileState) (left_in : F → Option (Li
   }
 
   pub applies : (disk file : Bor (List ℕ))
-      → IfOk result (Does state_of left_in (OnDisk (Apply disk file)) input (contents old) (contents new)) → NoUsage
+      → IfOk result (Does T state_of left_in (OnDisk (Apply disk file)) input (contents old) (contents new)) → NoUsage
       → IfErr result (λ failure. failure ≢ Output
       → (outcomes : List (Option Refusal)) × Appends (contents old) (contents new) (outcome_lines 1 outcomes))
-      → IfErr result (FailsAs state_of left_in (OnDisk (Apply disk file)) input (contents old) (contents new)) → Broken
-      → Performs state_of left_in contents failed (OnDisk (Apply disk file)) input old result new
+      → IfErr result (FailsAs T state_of left_in (OnDisk (Apply disk file)) input (contents old) (contents new))
+      → Broken
+      → Performs T state_of left_in contents failed (OnDisk (Apply disk file)) input old result new
   applies disk file done other lines fails broken = record {
     does = done;
     status = IfOk-weaker result _ _
@@ -222,9 +223,10 @@ module _ {F W : Type 0} (state_of : F → FileState) (left_in : F → Option (Li
   }
 
   pub shows : (disk : Bor (List ℕ))
-      → IfOk result (Does state_of left_in (OnDisk (Show disk)) input (contents old) (contents new)) → NoUsage → Silent
-      → IfErr result (FailsAs state_of left_in (OnDisk (Show disk)) input (contents old) (contents new)) → Broken
-      → Performs state_of left_in contents failed (OnDisk (Show disk)) input old result new
+      → IfOk result (Does T state_of left_in (OnDisk (Show disk)) input (contents old) (contents new))
+      → NoUsage → Silent
+      → IfErr result (FailsAs T state_of left_in (OnDisk (Show disk)) input (contents old) (contents new)) → Broken
+      → Performs T state_of left_in contents failed (OnDisk (Show disk)) input old result new
   shows disk done other silent fails broken = record {
     does = done;
     status = IfOk-weaker result _ _ (λ status all. inl all.1) done;
@@ -237,12 +239,12 @@ module _ {F W : Type 0} (state_of : F → FileState) (left_in : F → Option (Li
 
   pub protects : (disk from to : Bor (List ℕ)) (is_all : Bool)
       → IfOk result
-      (Does state_of left_in (OnFrames (Protect disk from to is_all)) input (contents old) (contents new)) → NoUsage
+      (Does T state_of left_in (OnFrames (Protect disk from to is_all)) input (contents old) (contents new)) → NoUsage
       → Silent
       → IfErr result
-      (FailsAs state_of left_in (OnFrames (Protect disk from to is_all)) input (contents old) (contents new))
+      (FailsAs T state_of left_in (OnFrames (Protect disk from to is_all)) input (contents old) (contents new))
       → Broken
-      → Performs state_of left_in contents failed (OnFrames (Protect disk from to is_all)) input old result new
+      → Performs T state_of left_in contents failed (OnFrames (Protect disk from to is_all)) input old result new
   protects disk from to is_all done other silent fails broken = record {
     does = done;
     status = IfOk-weaker result _ _ (λ status all. let (summary, passes, printed, is) = all in
@@ -255,13 +257,13 @@ module _ {F W : Type 0} (state_of : F → FileState) (left_in : F → Option (Li
   }
 
   pub validates : (disk from to : Bor (List ℕ)) (is_all : Bool) → IfOk result
-      (Does state_of left_in (OnFrames (Validate disk from to is_all false)) input (contents old) (contents new))
+      (Does T state_of left_in (OnFrames (Validate disk from to is_all false)) input (contents old) (contents new))
       → NoUsage
       → Silent
       → IfErr result
-      (FailsAs state_of left_in (OnFrames (Validate disk from to is_all false)) input (contents old) (contents new))
+      (FailsAs T state_of left_in (OnFrames (Validate disk from to is_all false)) input (contents old) (contents new))
       → Broken
-      → Performs state_of left_in contents failed (OnFrames (Validate disk from to is_all false)) input old result new
+      → Performs T state_of left_in contents failed (OnFrames (Validate disk from to is_all false)) input old result new
   validates disk from to is_all done other silent fails broken = record {
     does = done;
     status = IfOk-weaker result _ _ (λ status all. let (summary, passes, printed, is) = all in
@@ -275,12 +277,12 @@ module _ {F W : Type 0} (state_of : F → FileState) (left_in : F → Option (Li
 
   pub judges : (disk from to : Bor (List ℕ)) (is_all : Bool)
       → IfOk result
-      (Does state_of left_in (OnFrames (Validate disk from to is_all true)) input (contents old) (contents new))
+      (Does T state_of left_in (OnFrames (Validate disk from to is_all true)) input (contents old) (contents new))
       → NoUsage → IfErr result (λ failure. failure ≢ Output → PrintsVerdicts (contents old) (contents new))
       → IfErr result
-      (FailsAs state_of left_in (OnFrames (Validate disk from to is_all true)) input (contents old) (contents new))
+      (FailsAs T state_of left_in (OnFrames (Validate disk from to is_all true)) input (contents old) (contents new))
       → Broken
-      → Performs state_of left_in contents failed (OnFrames (Validate disk from to is_all true)) input old result new
+      → Performs T state_of left_in contents failed (OnFrames (Validate disk from to is_all true)) input old result new
   judges disk from to is_all done other front fails broken = record {
     does = done;
     status = IfOk-weaker result _ _ (λ status all. let (summary, verdicts, passes, printed, is) = all in
@@ -294,22 +296,24 @@ module _ {F W : Type 0} (state_of : F → FileState) (left_in : F → Option (Li
 
   -- which of the two, as its flag says
   pub validates-so : (disk from to : Bor (List ℕ)) (is_all is_each b : Bool) → is_each ≡ b
-      → Performs state_of left_in contents failed (OnFrames (Validate disk from to is_all b)) input old result new
-      → Performs state_of left_in contents failed (OnFrames (Validate disk from to is_all is_each)) input old result new
+      → Performs T state_of left_in contents failed (OnFrames (Validate disk from to is_all b)) input old result new
+      → Performs T state_of left_in contents failed (OnFrames (Validate disk from to is_all is_each)) input
+      old result new
   validates-so disk from to is_all is_each b is performs =
       subst (λ (x : Bool).
-      Performs state_of left_in contents failed (OnFrames (Validate disk from to is_all x)) input old result new)
+      Performs T state_of left_in contents failed (OnFrames (Validate disk from to is_all x)) input old result new)
       (sym is) performs
 
   pub relays : (disk : Bor (List ℕ)) (controlled common : WireEnds) (running : Running)
       → IfOk result
-      (Does state_of left_in (OnFrames (Relay disk controlled common running)) input (contents old) (contents new))
+      (Does T state_of left_in (OnFrames (Relay disk controlled common running)) input (contents old) (contents new))
       → IfErr result (λ failure. failure_status failure ≡ ends.Usage
       → WrongValues (OnFrames (Relay disk controlled common running)) × (new ≡ old)) → Silent
-      → IfErr result (FailsAs state_of left_in (OnFrames (Relay disk controlled common running)) input (contents old)
+      → IfErr result (FailsAs T state_of left_in (OnFrames (Relay disk controlled common running)) input (contents old)
       (contents new))
       → Broken
-      → Performs state_of left_in contents failed (OnFrames (Relay disk controlled common running)) input old result new
+      → Performs T state_of left_in contents failed (OnFrames (Relay disk controlled common running)) input
+      old result new
   relays disk controlled common running done usage silent fails broken = record {
     does = done;
     status = IfOk-weaker result _ _ (λ status all. let (summary, comes, spelled, printed, is) = all in inl is) done;
@@ -336,7 +340,7 @@ module _ {F W : Type 0} (state_of : F → FileState) (left_in : F → Option (Li
       → IfOk result (PrintsAnswer asked is_json (contents old) (contents new))
       → IfErr result (AskFails path.now asked)
       → IfErr result (λ failure. failure ≢ Output → PrintsFront asked (contents old) (contents new)) → Broken
-      → Performs state_of left_in contents failed (Tool (Ask path asked is_json)) input old result new
+      → Performs T state_of left_in contents failed (Tool (Ask path asked is_json)) input old result new
   asks path asked is_json done fails front broken = record {
     does = done;
     status = IfOk-weaker result _ _ (answer-status asked is_json) done;
@@ -350,7 +354,7 @@ module _ {F W : Type 0} (state_of : F → FileState) (left_in : F → Option (Li
 
   pub keys : (is_long : Bool) → IfOk result
       (λ status. GivesKey is_long (contents old) (contents new) × (status ≡ ends.Done)) → IfErr result IsOfKey
-      → Silent → Broken → Performs state_of left_in contents failed (Tool (Key is_long)) input old result new
+      → Silent → Broken → Performs T state_of left_in contents failed (Tool (Key is_long)) input old result new
   keys is_long done fails silent broken = record {
     does = done;
     status = IfOk-weaker result _ _ (λ status all. inl all.1) done;
@@ -365,7 +369,7 @@ module _ {F W : Type 0} (state_of : F → FileState) (left_in : F → Option (Li
       (λ status. Inspects (contents old) (contents new) × (status ≡ ends.Done)) → IfErr result IsOfInspecting
       → IfErr result (InspectFails from.now (contents old) (contents new))
       → IfErr result (λ failure. failure ≢ Output → PrintsFrames (contents old) (contents new))
-      → Broken → Performs state_of left_in contents failed (Tool (Inspect from)) input old result new
+      → Broken → Performs T state_of left_in contents failed (Tool (Inspect from)) input old result new
   inspects from done ours fails front broken = record {
     does = done;
     status = IfOk-weaker result _ _ (λ status all. inl all.1) done;
@@ -397,7 +401,7 @@ module _ {F W : Type 0} (state_of : F → FileState) (left_in : F → Option (Li
   pub checks : (file : Bor (List ℕ)) (disk : Option (Bor (List ℕ)))
       → IfOk result (Checks state_of left_in disk (contents old) (contents new))
       → IfErr result (CheckEnds state_of left_in file.now disk) → Silent → Broken
-      → Performs state_of left_in contents failed (Tool (Check file disk)) input old result new
+      → Performs T state_of left_in contents failed (Tool (Check file disk)) input old result new
   checks file disk done fails silent broken = record {
     does = done;
     status = IfOk-weaker result _ _ (check-status disk) done;
@@ -412,7 +416,7 @@ module _ {F W : Type 0} (state_of : F → FileState) (left_in : F → Option (Li
       (λ status. PrintsPlan left_in end stage (contents old) (contents new)
       × (status ≡ ends.Done))
       → IfErr result (PlanFails left_in file.now end stage) → Silent → Broken
-      → Performs state_of left_in contents failed (Tool (Plan file end stage)) input old result new
+      → Performs T state_of left_in contents failed (Tool (Plan file end stage)) input old result new
   plans file end stage done fails silent broken = record {
     does = done;
     status = IfOk-weaker result _ _ (λ status all. inl all.1) done;
@@ -428,7 +432,7 @@ module _ {F W : Type 0} (state_of : F → FileState) (left_in : F → Option (Li
   pub examines : (disk : Bor (List ℕ)) (is_json : Bool)
       → IfOk result (PrintsExamined state_of is_json (contents old) (contents new))
       → IfErr result (ExamineFails state_of disk.now) → Silent → Broken
-      → Performs state_of left_in contents failed (Tool (Examine disk is_json)) input old result new
+      → Performs T state_of left_in contents failed (Tool (Examine disk is_json)) input old result new
   examines disk is_json done fails silent broken = record {
     does = done;
     status = IfOk-weaker result _ _ (λ status (text, is, printed). said-status _ _ _ _ is.says) done;
@@ -442,7 +446,7 @@ module _ {F W : Type 0} (state_of : F → FileState) (left_in : F → Option (Li
 
   pub tells : IfOk result (λ status. Appends (contents old) (contents new) about_text × (status ≡ ends.Done))
       → IfErr result (λ failure. (failure ≡ failures.Memory) ⊎ (failure ≡ Output)) → Silent → Broken
-      → Performs state_of left_in contents failed (Tool About) input old result new
+      → Performs T state_of left_in contents failed (Tool About) input old result new
   tells done fails silent broken = record {
     does = done;
     status = IfOk-weaker result _ _ (λ status all. inl all.1) done;

@@ -6,7 +6,7 @@ use Rattle.macs_disk.specs.Disk.{Disk}
 use Rattle.macs_disk.specs.FileDisks.{disk_in_file}
 use Rattle.macs_disk.specs.Files.{FileState}
 use Rattle.macs_edge.specs.Attending.{IsAttended}
-use Rattle.macs_edge.specs.Relaying.{empty_lane, relay_of}
+use Rattle.macs_edge.specs.Relaying.{Relay, empty_lane, relay_of}
 use Rattle.macs_edge.specs.declared.attending.DeskEvent.{DeskEvent}
 use Rattle.macs_edge.specs.Wires.{WireState}
 use Rattle.macs_edge.specs.declared.relaying.RelaySummary.{RelaySummary}
@@ -23,7 +23,7 @@ use Rattle.macs_cli.specs.Addresses.{AddressFaultHolds, SpellsBoth, address_faul
 use Rattle.macs_offline.specs.Openings.{OpeningFails}
 use Rattle.macs_cli.specs.Failing.{failure_of_refill, failure_status}
 use Rattle.macs_program.specs.Relaying.{ComesTo, Course, IsAfterAddresses, IsOfRelay, IsRun, IsUnbound, RelayEndsIn}
-use Rattle.macs_program.specs.Relaying.{Reports, course_of, is_attended, new_wire, turns_of}
+use Rattle.macs_program.specs.Relaying.{Reports, course_of, course_with, is_attended, new_wire}
 use Rattle.macs_program.specs.Summing.{relay_line}
 use Rattle.macs_program.specs.Tasks.{DoesRelay, IsRunIn}
 use Rattle.macs_cli.specs.declared.addresses.AddressFault.{AddressFault}
@@ -48,6 +48,14 @@ between-new disk_of turns all old new first second controlled common events answ
     (subst (λ (w : WireState).
     IsAttended disk_of turns (relay_of old first w empty_lane empty_lane) events answer new controlled common) other
     attended))
+
+-- as many turns as the words request
+pub turns-so : {D : Type 0} (disk_of : D → Disk) (turns all : ℕ) (old : Relay D) (new : EndpointValue D)
+    (controlled common : WireState) (events : List DeskEvent) (answer : Result RelaySummary RefillFault)
+    → turns ≡ all → IsAttended disk_of turns old events answer new controlled common
+    → IsAttended disk_of all old events answer new controlled common
+turns-so disk_of turns all old new controlled common events answer same attended =
+    subst (λ (n : ℕ). IsAttended disk_of n old events answer new controlled common) same attended
 
 -- ---- failures of a relay
 
@@ -155,15 +163,16 @@ unbound-no-output file failure (inr fails) is = disk-no-output failure (of-look 
 
 module _ {D W : Type 0} (disk_of : D → Disk) (contents : W → Option (List ℕ)) (has_failed : W → Bool) (course : Course)
     (old : EndpointValue D) (before : W) where
-  -- without the control socket nothing is done
-  pub no-desk : (fault failure : Failure) (result : Result Status Failure) → result ≡ Err failure → failure ≡ fault
-      → IsOfDesk fault → DoesRelay disk_of contents has_failed course old before result old before
-  no-desk fault failure result is same names =
+  -- without a desk that it is to have nothing is done
+  pub no-desk : course.attended ≡ true → (fault failure : Failure) (result : Result Status Failure)
+      → result ≡ Err failure → failure ≡ fault → IsOfDesk fault
+      → DoesRelay disk_of contents has_failed course old before result old before
+  no-desk wanted fault failure result is same names =
       let named = subst IsOfDesk (sym same) names in
       subst (λ (r : Result Status Failure). DoesRelay disk_of contents has_failed course old before r old before)
       (sym is) (record {
         printed = tt;
-        ended = inl (named, refl);
+        ended = inl (wanted, named, refl);
         failed = desk-behind failure named;
         silent = λ other. refl;
         broken = λ output. absurd (desk-no-output failure named output);
@@ -206,16 +215,16 @@ module _ {D W : Type 0} (disk_of : D → Disk) (contents : W → Option (List �
       })
 
 -- a relay that runs as the words request
-pub as-wanted : {D W : Type 0} (disk_of : D → Disk) (contents : W → Option (List ℕ)) (has_failed : W → Bool)
-    (running : Running) (is : Bool) (old : EndpointValue D) (before : W) (result : Result Status Failure)
-    (new : EndpointValue D) (after : W)
+pub as-wanted : {D W : Type 0} (T : Type 0) (disk_of : D → Disk) (contents : W → Option (List ℕ))
+    (has_failed : W → Bool)
+    (disk : List ℕ) (running : Running) (is : Bool) (old : EndpointValue D) (before : W)
+    (result : Result Status Failure) (new : EndpointValue D) (after : W)
     → is ≡ is_attended running
-    → DoesRelay disk_of contents has_failed (record { attended = is; turns = turns_of running.pace }) old before result
-    new after
-    → DoesRelay disk_of contents has_failed (course_of running) old before result new after
-as-wanted disk_of contents has_failed running is old before result new after same does =
-    subst (λ (b : Bool). DoesRelay disk_of contents has_failed
-    (record { attended = b; turns = turns_of running.pace }) old before result new after) same does
+    → DoesRelay disk_of contents has_failed (course_with T is disk running) old before result new after
+    → DoesRelay disk_of contents has_failed (course_of T disk running) old before result new after
+as-wanted T disk_of contents has_failed disk running is old before result new after same does =
+    subst (λ (b : Bool). DoesRelay disk_of contents has_failed (course_with T b disk running) old before result new
+    after) same does
 
 -- ---- what `relay` comes to
 

@@ -9,20 +9,21 @@ use Rattle.macs_cli.specs.declared.failure.Failure.{Failure}
 use Rattle.macs_cli.specs.declared.failure.Failure.TheVariants.{Output}
 use Rattle.macs_cli.specs.declared.status.Status.{Status}
 use Rattle.macs_cli.specs.declared.status.Status.TheVariants.{Done}
-use Rattle.macs_program.specs.Asking.{Asks, AsksForText, AsksInVain, IsUnheard, IsUnprinted, LacksDone, LacksText}
-use Rattle.macs_program.proofs.Told.{before-status, before-unheard}
+use Rattle.macs_program.specs.Asking.{Asks, AsksForText, AsksInVain, IsUnprinted, LacksDone, LacksText}
+use Rattle.macs_program.proofs.Told.{before-status, before-vain}
 
 -- a request without an answer
 pub unheard-lacks : {T : Type 0} (old new : Option Conversation) (asked : Request) (fault failure : Failure)
-    (result : Result T Failure) → result ≡ Err failure → failure ≡ fault → AsksInVain old asked new → IsUnheard fault
+    (result : Result T Failure) → result ≡ Err failure → failure ≡ fault → AsksInVain old asked fault new
     → IfErr result (λ why. LacksDone old asked why new)
-unheard-lacks old new asked fault failure result is same vain unheard =
-    subst (λ r. IfErr r (λ why. LacksDone old asked why new)) (sym (is ∙ ap Err same)) (inl (vain, unheard))
+unheard-lacks old new asked fault failure result is same vain =
+    subst (λ r. IfErr r (λ why. LacksDone old asked why new)) (sym (is ∙ ap Err same)) (inl vain)
 
 -- nothing was printed before that
 pub lacks-no-output : (old new : Option Conversation) (asked : Request) (failure : Failure)
     → LacksDone old asked failure new → failure ≢ Output
-lacks-no-output old new asked failure (inl (vain, unheard)) = (before-unheard failure unheard).1
+lacks-no-output old new asked failure (inl vain) =
+    (before-vain old new asked failure vain).1
 lacks-no-output old new asked failure (inr (text, status, asks, undone)) = (before-status status failure undone.1).1
 
 module _ {W : Type 0} (contents : W → Option (List ℕ)) (has_failed : W → Bool) (asked : Request)
@@ -44,17 +45,21 @@ module _ {W : Type 0} (contents : W → Option (List ℕ)) (has_failed : W → B
       })
 
   -- it cannot be printed
-  pub text-unprinted : (between new : Option Conversation) (text : List ℕ) (after : W) (fault failure : Failure)
+  pub text-unprinted : (between new : Option Conversation) (text octets : List ℕ) (after : W) (fault failure : Failure)
       (result : Result Status Failure) → result ≡ Err failure → failure ≡ fault → Asks old asked text 0 between
-      → Follows between new → IsUnprinted is_json fault → (fault ≢ Output → after ≡ before)
+      → Follows between new → octets ≡ text → IsUnprinted is_json octets fault → (fault ≢ Output → after ≡ before)
       → (fault ≡ Output → has_failed after ≡ true)
       → AsksForText contents has_failed asked Follows Fails is_json old before result new after
-  text-unprinted between new text after fault failure result is same asks follows unprinted silent broken =
+  text-unprinted between new text octets after fault failure result is same asks follows read unprinted silent broken =
       subst (λ (r : Result Status Failure).
       AsksForText contents has_failed asked Follows Fails is_json old before r new after)
       (sym (is ∙ ap Err same)) (record {
         printed = tt;
-        failed = inr (inr (text, (between, asks, follows), unprinted));
+        failed = inr (inr (
+          text,
+          (between, asks, follows),
+          subst (λ (t : List ℕ). IsUnprinted is_json t fault) read unprinted,
+        ));
         silent = silent;
         broken = broken;
       })

@@ -8,8 +8,9 @@ use Rattle.macs_config.specs.declared.command.Command.{Command}
 use Rattle.macs_commands.specs.declared.requests.request.Request.{Request}
 use Rattle.macs_commands.specs.declared.requests.request.Request.TheVariants as request
 use Rattle.macs_control.specs.Asking.{Conversation, Outlives}
-use Rattle.macs_program.specs.Asking.{AppliesEach, AppliesFile, AskFails, AsksForText, Converses, EndsAsking}
-use Rattle.macs_program.specs.Asking.{FailsNowhere, FailsToEnd, IsForOther, IsOfAsking, IsOther, IsUnanswered}
+use Rattle.macs_program.specs.Asking.{AppliesEach, AppliesFile, AskFails, AsksForText, AsksInVain, Converses}
+use Rattle.macs_program.specs.Asking.{EndsAsking, FailsNowhere, FailsToEnd, IsForOther, IsOfAsking, IsOther}
+use Rattle.macs_program.specs.Asking.{IsUnanswered}
 use Rattle.macs_program.specs.Asking.{IsUnheard, IsUnprinted, LacksDone, LacksEnd, LacksOutcome, LacksText}
 use Rattle.macs_program.specs.Asking.{PrintsAnswer, PrintsFront, SaysNoMore, SaysNothing, SaysOfAsking}
 use Rattle.macs_program.specs.Asking.{SaysOfCommands, SaysOfSocket, TellsOfSocket, failure_in, is_of_endpoint}
@@ -104,6 +105,13 @@ pub before-unheard : (failure : Failure) → IsUnheard failure → IsBeforeComma
 before-unheard failure (inl memory) = subst IsBeforeCommands (sym memory) (tt, λ e. cc)
 before-unheard failure (inr control) = subst IsBeforeCommands (sym control) (tt, λ e. cc)
 
+-- a request without an answer
+pub before-vain : (old new : Option Conversation) (asked : Request) (failure : Failure)
+    → AsksInVain old asked failure new → IsBeforeCommands failure
+before-vain old new asked failure (inl (unheard, sent)) = before-unheard failure unheard
+before-vain old new asked failure (inr (between, sent, inl (memory, read))) = before-unheard failure (inl memory)
+before-vain old new asked failure (inr (between, sent, inr (gone, read))) = before-unheard failure (inr gone)
+
 pub before-status : (status : ℕ) (failure : Failure) → failure ≡ failure_in status → IsBeforeCommands failure
 before-status status failure is = subst IsBeforeCommands (sym is) (not-shown status)
 
@@ -122,13 +130,13 @@ before-other sci status text failure (inr (none, inr (another, is))) =
 pub before-end : (old new : Option Conversation) (end : Option (List ℕ)) (failure : Failure)
     → LacksEnd old end failure new → IsBeforeCommands failure
 before-end old new None failure lacks = absurd lacks
-before-end old new (Some sci) failure (inl (vain, unheard)) = before-unheard failure unheard
+before-end old new (Some sci) failure (inl vain) = before-vain old new request.Show failure vain
 before-end old new (Some sci) failure (inr (text, status, asked, other)) = before-other sci status text failure other
 
 -- a command that is neither accepted nor refused
 pub before-outcome : (old new : Option Conversation) (command : Command) (failure : Failure)
     → LacksOutcome old command failure new → IsBeforeCommands failure
-before-outcome old new command failure (inl (vain, unheard)) = before-unheard failure unheard
+before-outcome old new command failure (inl vain) = before-vain old new (request.Apply command) failure vain
 before-outcome old new command failure (inr (text, status, asked, is)) = before-status status failure is.failed.0
 
 ended-asking : (old new : Option Conversation) (command : Command) (failure : Failure)
@@ -140,12 +148,15 @@ ended-asking old new command failure (inr (outcome, asked, output)) =
 -- a text that is not printed
 lacking-done : (old new : Option Conversation) (asked : Request) (failure : Failure) → LacksDone old asked failure new
     → IsOfAsking SaysNothing failure
-lacking-done old new asked failure (inl (vain, unheard)) = (before-unheard failure unheard).0
+lacking-done old new asked failure (inl vain) = (before-vain old new asked failure vain).0
 lacking-done old new asked failure (inr (text, status, asks, undone)) = (before-status status failure undone.1).0
 
-unprinted-asking : (is_json : Bool) (failure : Failure) → IsUnprinted is_json failure → IsOfAsking SaysNothing failure
-unprinted-asking is_json failure (inl output) = subst (IsOfAsking SaysNothing) (sym output) tt
-unprinted-asking is_json failure (inr (json, unheard)) = (before-unheard failure unheard).0
+unprinted-asking : (is_json : Bool) (text : List ℕ) (failure : Failure) → IsUnprinted is_json text failure
+    → IsOfAsking SaysNothing failure
+unprinted-asking false text failure output = subst (IsOfAsking SaysNothing) (sym output) tt
+unprinted-asking true text failure (inl output) = subst (IsOfAsking SaysNothing) (sym output) tt
+unprinted-asking true text failure (inr (inl memory)) = (before-unheard failure (inl memory)).0
+unprinted-asking true text failure (inr (inr (control, none))) = (before-unheard failure (inr control)).0
 
 module _ (asked : Request) (Follows : Option Conversation → Option Conversation → Type 0)
     (Fails : Option Conversation → Failure → Option Conversation → Type 0)
@@ -155,7 +166,8 @@ module _ (asked : Request) (Follows : Option Conversation → Option Conversatio
       → LacksText asked Follows Fails is_json old failure new → IsOfAsking SaysNothing failure
   lacking-text is_json old new failure (inl lacks) = lacking-done old new asked failure lacks
   lacking-text is_json old new failure (inr (inl (text, between, asks, fails))) = ours between failure new fails
-  lacking-text is_json old new failure (inr (inr (text, done, unprinted))) = unprinted-asking is_json failure unprinted
+  lacking-text is_json old new failure (inr (inr (text, done, unprinted))) =
+      unprinted-asking is_json text failure unprinted
 
 nowhere-asking : (between : Option Conversation) (failure : Failure) (new : Option Conversation)
     → FailsNowhere between failure new → IsOfAsking SaysNothing failure

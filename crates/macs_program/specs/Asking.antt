@@ -4,13 +4,15 @@ use Rattle.std.specs.Prelude.{◌⊎◌, ◌↔◌, ◌++◌, ◌&&◌, codes, S
 use Rattle.std.specs.Prelude.{◌∷◌, [], nat_eq, string_bytes}
 use Rattle.std.specs.Io.KnownBytes.{Appends}
 use Rattle.std.specs.List.{starts_with}
+use Rattle.std.specs.Str.{IsUtf8}
 use Rattle.hex.specs.Hex.{encode_lower}
 use Rattle.macs_config.specs.declared.command.Command.{Command}
 use Rattle.macs_config.specs.declared.refusal.Refusal.{Refusal}
 use Rattle.macs_commands.specs.Requests.{request_line}
 use Rattle.macs_commands.specs.declared.requests.request.Request.{Request}
 use Rattle.macs_commands.specs.declared.requests.request.Request.TheVariants as request
-use Rattle.macs_control.specs.Asking.{Conversation, Outlives, OutlivesNot, ReadsAnswer, ReadsSome, Sends, SendsSome}
+use Rattle.macs_control.specs.Asking.{Conversation, Outlives, OutlivesNot, ReadsAnswer, ReadsNoEnd, ReadsSome, Sends}
+use Rattle.macs_control.specs.Asking.{SendsSome}
 use Rattle.macs_cli.specs.Objects.{in_form}
 use Rattle.macs_record.specs.Sectors.{Begins}
 use Rattle.macs_cli.specs.Words.{is_report}
@@ -130,14 +132,20 @@ abbrev pub Asks : Option Conversation → Request → List ℕ → ℕ → Optio
 Asks old asked text status new = (between : Option Conversation)
     × Sends old (request_line asked ++ 10 ∷ []) between × ReadsAnswer between text status new
 
--- a request is sent, or its first octets, and of its answer at most a part is read
-abbrev pub AsksInVain : Option Conversation → Request → Option Conversation → Type 0
-AsksInVain old asked new = (between : Option Conversation)
-    × SendsSome old (request_line asked ++ 10 ∷ []) between × ReadsSome between new
-
 -- why a request has no answer: no memory, or no relay
 abbrev pub IsUnheard : Failure → Type 0
 IsUnheard failure = (failure ≡ failures.Memory) ⊎ (failure ≡ failures.Control)
+
+-- no answer is read: there is no memory, after a part of it; or no relay, and what is read has no end
+abbrev pub ReadsInVain : Option Conversation → Failure → Option Conversation → Type 0
+ReadsInVain old failure new = ((failure ≡ failures.Memory) × ReadsSome old new)
+    ⊎ ((failure ≡ failures.Control) × ReadsNoEnd old new)
+
+-- a request has no answer: its first octets are sent, or none; or it is sent whole, and no answer is read
+abbrev pub AsksInVain : Option Conversation → Request → Failure → Option Conversation → Type 0
+AsksInVain old asked failure new = (IsUnheard failure × SendsSome old (request_line asked ++ 10 ∷ []) new)
+    ⊎ ((between : Option Conversation) × Sends old (request_line asked ++ 10 ∷ []) between
+    × ReadsInVain between failure new)
 
 -- ---- a text that is printed
 
@@ -159,9 +167,15 @@ abbrev pub AsksThen : (Option Conversation → Option Conversation → Type 0) �
 AsksThen Follows old asked text status new =
     (between : Option Conversation) × Asks old asked text status between × Follows between new
 
--- why a text is not printed: the output fails; or for JSON there is no memory, or the text is not UTF-8
-abbrev pub IsUnprinted : Bool → Failure → Type 0
-IsUnprinted is_json failure = (failure ≡ failures.Output) ⊎ ((is_json ≡ true) × IsUnheard failure)
+-- why a text is not printed as JSON: the output fails, there is no memory, or the text is not UTF-8
+abbrev pub IsNoJson : List ℕ → Failure → Type 0
+IsNoJson text failure = (failure ≡ failures.Output) ⊎ (failure ≡ failures.Memory)
+    ⊎ ((failure ≡ failures.Control) × (IsUtf8 text → ⊥))
+
+-- why a text is not printed: as JSON for one of these reasons, otherwise because the output fails
+abbrev pub IsUnprinted : Bool → List ℕ → Failure → Type 0
+IsUnprinted true text failure = IsNoJson text failure
+IsUnprinted false text failure = failure ≡ failures.Output
 
 -- an answer means that the request was not carried out
 abbrev pub IsUndone : ℕ → Failure → Type 0
@@ -169,7 +183,7 @@ IsUndone status failure = (status ≢ 0) × (failure ≡ failure_in status)
 
 -- a request has no answer, or one that means that it was not carried out
 abbrev pub LacksDone : Option Conversation → Request → Failure → Option Conversation → Type 0
-LacksDone old asked failure new = (AsksInVain old asked new × IsUnheard failure)
+LacksDone old asked failure new = AsksInVain old asked failure new
     ⊎ ((text : List ℕ) × (status : ℕ) × Asks old asked text status new × IsUndone status failure)
 
 -- why a text that a relay was asked for is not printed: the request was not carried out; what is done next fails; or
@@ -179,7 +193,7 @@ abbrev pub LacksText : Request → (Option Conversation → Option Conversation 
     → Option Conversation → Type 0
 LacksText asked Follows Fails is_json old failure new = LacksDone old asked failure new
     ⊎ ((text : List ℕ) × (between : Option Conversation) × Asks old asked text 0 between × Fails between failure new)
-    ⊎ ((text : List ℕ) × AsksThen Follows old asked text 0 new × IsUnprinted is_json failure)
+    ⊎ ((text : List ℕ) × AsksThen Follows old asked text 0 new × IsUnprinted is_json text failure)
 
 -- a relay is asked for a text, then this is done, and the text is printed, as JSON if requested; or that fails, and
 -- nothing is printed before the output fails
@@ -220,7 +234,7 @@ AsksEach old commands outcomes new = ⊥
 
 -- a command is sent, and is neither accepted nor refused: it has no answer, or one that means neither
 abbrev pub LacksOutcome : Option Conversation → Command → Failure → Option Conversation → Type 0
-LacksOutcome old command failure new = (AsksInVain old (request.Apply command) new × IsUnheard failure)
+LacksOutcome old command failure new = AsksInVain old (request.Apply command) failure new
     ⊎ AsksOne old command (Err failure) new
 
 -- a command is sent, and ends the run: it is neither accepted nor refused, or its line cannot be printed
@@ -275,7 +289,7 @@ IsOther sci status text failure = IsUndone status failure
 
 -- a relay is asked for its text, and does not show that it is the endpoint with this SCI
 abbrev pub LacksOwn : Option Conversation → List ℕ → Failure → Option Conversation → Type 0
-LacksOwn old sci failure new = (AsksInVain old request.Show new × IsUnheard failure)
+LacksOwn old sci failure new = AsksInVain old request.Show failure new
     ⊎ ((text : List ℕ) × (status : ℕ) × Asks old request.Show text status new × IsOther sci status text failure)
 
 -- the same for the end that a command file names

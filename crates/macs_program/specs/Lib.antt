@@ -5,6 +5,7 @@ pub mod CaptureFiles
 pub mod Capturing
 pub mod Endpoints
 pub mod Judging
+pub mod Attendants
 pub mod Relaying
 pub mod Tasks
 pub mod Asking

@@ -9,7 +9,11 @@ use Rattle.macs_disk.specs.declared.file.FileDisk.{FileDisk}
 use Rattle.macs_edge.specs.Attending.{IsAttended}
 use Rattle.macs_edge.specs.Relaying.{IsRelayed, Relay, empty_lane, relay_of}
 use Rattle.macs_edge.specs.declared.attending.DeskEvent.{DeskEvent}
+use Rattle.macs_edge.specs.SparedSockets.{over_socket}
+use Rattle.macs_edge.specs.UdpWires.{peer_of, socket_of}
 use Rattle.macs_edge.specs.Wires.{WireState}
+use Rattle.macs_edge.specs.declared.spared_sockets.SparedSocket.{SparedSocket}
+use Rattle.macs_edge.specs.declared.udp_wire.UdpWire.{UdpWire}
 use Rattle.macs_edge.specs.declared.relaying.RelaySummary.{RelaySummary}
 use Rattle.macs_endpoint.specs.Value.{EndpointValue}
 use Rattle.macs_endpoint.specs.declared.fault.RefillFault.{RefillFault}
@@ -24,6 +28,7 @@ use Rattle.macs_cli.specs.declared.failure.Failure.{Failure}
 use Rattle.macs_cli.specs.declared.failure.Failure.TheVariants as failures
 use Rattle.macs_cli.specs.declared.status.Status.{Status}
 use Rattle.macs_cli.specs.declared.status.Status.TheVariants as ends
+use Rattle.macs_program.specs.Attendants.{ServesOver}
 use Rattle.macs_program.specs.Summing.{relay_line}
 
 -- the state of a new UDP wire: no call of it failed, and its frames are not known
@@ -41,45 +46,54 @@ abbrev pub left_out : Pace → ℕ
 left_out (Sleepless turns) = 0
 left_out (Waiting limit turns) = 7
 
+-- a wire over a socket, none of whose receives was skipped yet, and which skips as many as a relay with this pace
+abbrev pub IsSparedAt : {A S : Type 0} → Pace → UdpWire A (SparedSocket S) → Type 0
+IsSparedAt pace wire = (socket : _) × (socket_of wire ≡ over_socket socket (left_out pace))
+
+-- the same wire as this one, over its socket
+abbrev pub SparesAt : {A S : Type 0} → Pace → UdpWire A S → UdpWire A (SparedSocket S) → Type 0
+SparesAt pace wire spared = (socket_of spared ≡ over_socket (socket_of wire) (left_out pace))
+    × (peer_of spared ≡ peer_of wire)
+
 -- the longest sleep of a relay, if it sleeps
 abbrev pub limit_of : Pace → Option Milliseconds
 limit_of (Sleepless turns) = None
 limit_of (Waiting limit turns) = Some limit
 
--- the configuration of a relay: whether a desk attends it, and its maximum number of turns
-pub record Course : Type 0 where
+-- the configuration of a relay: whether a desk attends it, its maximum number of turns, and what the desk, if there is
+-- one, does over the events of the relay
+pub record Course : Type 1 where
   pub attended : Bool
   pub turns : ℕ
-
--- one without a desk
-abbrev pub unattended : ℕ → Course
-unattended turns = record { attended = false; turns = turns }
-
--- one with a desk
-abbrev pub attended : ℕ → Course
-attended turns = record { attended = true; turns = turns }
+  pub Serves : List DeskEvent → Type 0
 
 -- a desk attends it if there is a control socket or a file of counters
 abbrev pub is_attended : Running → Bool
 is_attended running = is_some running.control || is_some running.metrics
 
--- what the words request
-abbrev pub course_of : Running → Course
-course_of running = record { attended = is_attended running; turns = turns_of running.pace }
+-- what the words request of the disk file with this name, attended or not, in the system `T`
+abbrev pub course_with : Type 0 → Bool → List ℕ → Running → Course
+course_with T attended disk running =
+    record { attended = attended; turns = turns_of running.pace; Serves = ServesOver T disk running }
 
--- Frames are relayed, and a desk, if there is one, submits commands, is given their results, and may end the relay
-abbrev pub IsRunBy : Bool → {D : Type 0} → (D → Disk) → ℕ → Relay D → Result RelaySummary RefillFault → EndpointValue D
-    → WireState → WireState → Type 0
-IsRunBy false disk_of turns old result endpoint controlled common =
+-- what the words request
+abbrev pub course_of : Type 0 → List ℕ → Running → Course
+course_of T disk running = course_with T (is_attended running) disk running
+
+-- Frames are relayed, and a desk, if there is one, submits commands, is given their results, reports them to its
+-- clients, and may end the relay
+abbrev pub IsRunBy : Bool → {D : Type 0} → (D → Disk) → ℕ → (List DeskEvent → Type 0) → Relay D
+    → Result RelaySummary RefillFault → EndpointValue D → WireState → WireState → Type 0
+IsRunBy false disk_of turns Serves old result endpoint controlled common =
     IsRelayed disk_of turns old result endpoint controlled common
-IsRunBy true disk_of turns old result endpoint controlled common =
-    (events : List DeskEvent) × IsAttended disk_of turns old events result endpoint controlled common
+IsRunBy true disk_of turns Serves old result endpoint controlled common = (events : List DeskEvent)
+    × IsAttended disk_of turns old events result endpoint controlled common × Serves events
 
 -- a relay runs as configured: with or without a desk, for a number of turns, or until it ends
 abbrev pub IsRun : {D : Type 0} → (D → Disk) → Course → Relay D → Result RelaySummary RefillFault → EndpointValue D
     → WireState → WireState → Type 0
 IsRun disk_of course old result endpoint controlled common =
-    IsRunBy course.attended disk_of course.turns old result endpoint controlled common
+    IsRunBy course.attended disk_of course.turns course.Serves old result endpoint controlled common
 
 -- a relay ends with this summary: of an endpoint that was opened on a disk in a file with this state, between two new
 -- wires
@@ -147,10 +161,11 @@ pub record StopsRelay {D : Type 0} (disk_of : D → Disk) (course : Course) (old
   pub ends : EndsRelay disk_of course (relay_of old new_wire new_wire empty_lane empty_lane) failure new
       controlled common
 
--- the control socket cannot be bound, or memory runs out, and nothing is done with the endpoint; or the relay ends
+-- there is to be a desk, and the control socket cannot be bound, another file has the name of the file of counters, or
+-- memory runs out, and nothing is done with the endpoint; or the relay ends
 abbrev pub RelayEnds : {D : Type 0} → (D → Disk) → Course → EndpointValue D → Failure → EndpointValue D → Type 0
 RelayEnds disk_of course old failure new =
-    (((failure ≡ failures.Memory) ⊎ (failure ≡ failures.Control)) × (new ≡ old))
+    ((course.attended ≡ true) × ((failure ≡ failures.Memory) ⊎ (failure ≡ failures.Control)) × (new ≡ old))
     ⊎ StopsRelay disk_of course old failure new
 
 -- The two wires cannot both be bound, or there is no memory for them. Then the disk in the file is examined, without

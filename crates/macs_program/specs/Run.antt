@@ -61,52 +61,53 @@ Prints input before after status =
 -- What a run prints that succeeds, where `state_of` gives the state of files, and `left_in` their unread octets. Which
 -- file has a name is not known here: the lines are those of what is done with some endpoint that was opened on a disk
 -- in a file, and of the commands of some file; that of a relay is the result for some endpoint
-abbrev pub Does : {F : Type 0} → (F → FileState) → (F → Option (List ℕ)) → Action → InputRead → Option (List ℕ)
+abbrev pub Does : {F : Type 0} → Type 0 → (F → FileState) → (F → Option (List ℕ)) → Action → InputRead → Option (List ℕ)
     → Option (List ℕ) → Status → Type 0
-Does state_of left_in Open input before after status = IfSome input.octets (λ octets. Prints octets before after status)
-Does state_of left_in (OnDisk (Format disk sci tx_block rx_block block is_over)) input before after status =
+Does T state_of left_in Open input before after status =
+    IfSome input.octets (λ octets. Prints octets before after status)
+Does T state_of left_in (OnDisk (Format disk sci tx_block rx_block block is_over)) input before after status =
     (identity : Identity) × SpellsIdentity sci.now tx_block rx_block identity
     × (layout : Layout) × SpellsLayout (option_map (λ text. text.now) block) layout
     × Formats state_of is_over layout identity
     × Appends before after (line (codes "formatted")) × (status ≡ ends.Done)
-Does state_of left_in (OnDisk (Apply disk file)) input before after status =
+Does T state_of left_in (OnDisk (Apply disk file)) input before after status =
     AppliesIn state_of left_in before after status
-Does state_of left_in (OnDisk (Show disk)) input before after status = ShowsIn state_of before after
+Does T state_of left_in (OnDisk (Show disk)) input before after status = ShowsIn state_of before after
     × (status ≡ ends.Done)
-Does state_of left_in (OnFrames (Protect disk from to is_all)) input before after status =
+Does T state_of left_in (OnFrames (Protect disk from to is_all)) input before after status =
     (summary : Summary) × PassesIn state_of Controlled summary
     × Appends before after (summary_line Controlled summary) × (status ≡ pass_status is_all summary)
-Does state_of left_in (OnFrames (Validate disk from to is_all false)) input before after status =
+Does T state_of left_in (OnFrames (Validate disk from to is_all false)) input before after status =
     (summary : Summary) × PassesIn state_of Common summary
     × Appends before after (summary_line Common summary) × (status ≡ pass_status is_all summary)
-Does state_of left_in (OnFrames (Validate disk from to is_all true)) input before after status =
+Does T state_of left_in (OnFrames (Validate disk from to is_all true)) input before after status =
     (summary : Summary) × (verdicts : List Verdict) × JudgesIn state_of summary verdicts
     × Appends before after (verdict_lines 1 verdicts ++ summary_line Common summary)
     × (status ≡ pass_status is_all summary)
-Does state_of left_in (OnFrames (Relay disk controlled common running)) input before after status =
-    (summary : RelaySummary) × ComesTo state_of (course_of running) summary × SpellsBoth controlled common
+Does T state_of left_in (OnFrames (Relay disk controlled common running)) input before after status =
+    (summary : RelaySummary) × ComesTo state_of (course_of T disk.now running) summary × SpellsBoth controlled common
     × Appends before after (relay_line summary) × (status ≡ ends.Done)
-Does state_of left_in (Tool (Ask path asked is_json)) input before after status =
+Does T state_of left_in (Tool (Ask path asked is_json)) input before after status =
     PrintsAnswer asked is_json before after status
-Does state_of left_in (Tool (Key is_long)) input before after status = GivesKey is_long before after
+Does T state_of left_in (Tool (Key is_long)) input before after status = GivesKey is_long before after
     × (status ≡ ends.Done)
-Does state_of left_in (Tool (Inspect from)) input before after status = Inspects before after × (status ≡ ends.Done)
-Does state_of left_in (Tool (Check file disk)) input before after status =
+Does T state_of left_in (Tool (Inspect from)) input before after status = Inspects before after × (status ≡ ends.Done)
+Does T state_of left_in (Tool (Check file disk)) input before after status =
     Checks state_of left_in disk before after status
-Does state_of left_in (Tool (Plan file end stage)) input before after status =
+Does T state_of left_in (Tool (Plan file end stage)) input before after status =
     PrintsPlan left_in end stage before after × (status ≡ ends.Done)
-Does state_of left_in (Tool (Examine disk is_json)) input before after status =
+Does T state_of left_in (Tool (Examine disk is_json)) input before after status =
     PrintsExamined state_of is_json before after status
-Does state_of left_in (Tool About) input before after status = Appends before after about_text × (status ≡ ends.Done)
+Does T state_of left_in (Tool About) input before after status = Appends before after about_text × (status ≡ ends.Done)
 
 -- a run that does not fail prints help on request, or its words are accepted and name an action, which it carries out
-abbrev pub Replies : {F : Type 0} → (F → FileState) → (F → Option (List ℕ)) → List Text → InputRead
+abbrev pub Replies : {F : Type 0} → Type 0 → (F → FileState) → (F → Option (List ℕ)) → List Text → InputRead
     → Option (List ℕ) → Option (List ℕ) → Status → Type 0
-Replies state_of left_in words input before after status =
+Replies T state_of left_in words input before after status =
     ((topic : Topic) × AsksFor words topic × Appends before after (topic_text topic) × (status ≡ ends.Done))
     ⊎ ((takes macsecd words ≡ true)
     × (action : Action) × Names (subcommand_of macsecd words) action
-    × Does state_of left_in action input before after status)
+    × Does T state_of left_in action input before after status)
 
 -- What was printed before a failure: for `apply` and `ask PATH apply` the lines of the commands before it, for
 -- `inspect` those of the frames before it, for `validate --each` those of the verdicts before it, else nothing
@@ -137,70 +138,72 @@ OpenFails input failure =
 
 -- How an action fails, where `state_of` gives the state of files, and `left_in` their unread octets: at the first value
 -- of the words that is not accepted, when opening the endpoint, or as what is done with it ends
-abbrev pub FailsAs : {F : Type 0} → (F → FileState) → (F → Option (List ℕ)) → Action → InputRead → Option (List ℕ)
+abbrev pub FailsAs : {F : Type 0} → Type 0 → (F → FileState) → (F → Option (List ℕ)) → Action → InputRead
+    → Option (List ℕ)
     → Option (List ℕ) → Failure → Type 0
-FailsAs state_of left_in Open input before after failure = OpenFails input failure
-FailsAs state_of left_in (OnDisk (Format disk sci tx_block rx_block block is_over)) octets before after failure =
+FailsAs T state_of left_in Open input before after failure = OpenFails input failure
+FailsAs T state_of left_in (OnDisk (Format disk sci tx_block rx_block block is_over)) octets before after failure =
     ((fault : ValueFault) × (failure ≡ Value fault)
     × IsFirst (ValueFaultHolds sci.now tx_block rx_block (option_map (λ text. text.now) block)) value_faults fault)
     ⊎ ((identity : Identity) × SpellsIdentity sci.now tx_block rx_block identity
     × FormatFails state_of is_over identity failure)
     ⊎ (failure ≡ Output)
-FailsAs state_of left_in (OnDisk (Apply disk file)) octets before after failure = OpeningFails state_of failure
+FailsAs T state_of left_in (OnDisk (Apply disk file)) octets before after failure = OpeningFails state_of failure
     ⊎ BreaksOffIn state_of left_in before after failure
-FailsAs state_of left_in (OnDisk (Show disk)) octets before after failure = OpeningFails state_of failure
+FailsAs T state_of left_in (OnDisk (Show disk)) octets before after failure = OpeningFails state_of failure
     ⊎ (failure ≡ Memory)
     ⊎ (failure ≡ Output)
-FailsAs state_of left_in (OnFrames (Protect disk from to is_all)) octets before after failure =
+FailsAs T state_of left_in (OnFrames (Protect disk from to is_all)) octets before after failure =
     OpeningFails state_of failure
     ⊎ PassEndsIn state_of Controlled failure
-FailsAs state_of left_in (OnFrames (Validate disk from to is_all false)) octets before after failure =
+FailsAs T state_of left_in (OnFrames (Validate disk from to is_all false)) octets before after failure =
     OpeningFails state_of failure
     ⊎ PassEndsIn state_of Common failure
-FailsAs state_of left_in (OnFrames (Validate disk from to is_all true)) octets before after failure =
+FailsAs T state_of left_in (OnFrames (Validate disk from to is_all true)) octets before after failure =
     OpeningFails state_of failure
     ⊎ JudgingEndsIn state_of failure
-FailsAs state_of left_in (OnFrames (Relay disk controlled common running)) octets before after failure =
+FailsAs T state_of left_in (OnFrames (Relay disk controlled common running)) octets before after failure =
     ((fault : AddressFault) × (failure ≡ Address fault)
     × IsFirst (AddressFaultHolds controlled common) address_faults fault)
     ⊎ IsUnbound state_of failure ⊎ OpeningFails state_of failure
-    ⊎ RelayEndsIn state_of (course_of running) failure
-FailsAs state_of left_in (Tool (Ask path asked is_json)) octets before after failure = AskFails path.now asked failure
-FailsAs state_of left_in (Tool (Key is_long)) octets before after failure = IsOfKey failure
-FailsAs state_of left_in (Tool (Inspect from)) octets before after failure = InspectFails from.now before after failure
-FailsAs state_of left_in (Tool (Check file disk)) octets before after failure =
+    ⊎ RelayEndsIn state_of (course_of T disk.now running) failure
+FailsAs T state_of left_in (Tool (Ask path asked is_json)) octets before after failure = AskFails path.now asked failure
+FailsAs T state_of left_in (Tool (Key is_long)) octets before after failure = IsOfKey failure
+FailsAs T state_of left_in (Tool (Inspect from)) octets before after failure =
+    InspectFails from.now before after failure
+FailsAs T state_of left_in (Tool (Check file disk)) octets before after failure =
     CheckEnds state_of left_in file.now disk failure
-FailsAs state_of left_in (Tool (Plan file end stage)) octets before after failure =
+FailsAs T state_of left_in (Tool (Plan file end stage)) octets before after failure =
     PlanFails left_in file.now end stage failure
-FailsAs state_of left_in (Tool (Examine disk is_json)) octets before after failure =
+FailsAs T state_of left_in (Tool (Examine disk is_json)) octets before after failure =
     ExamineFails state_of disk.now failure
-FailsAs state_of left_in (Tool About) octets before after failure = (failure ≡ Memory) ⊎ (failure ≡ Output)
+FailsAs T state_of left_in (Tool About) octets before after failure = (failure ≡ Memory) ⊎ (failure ≡ Output)
 
 -- An action is carried out, with one of these two statuses, or fails. A usage failure is that of a wrong value, and
 -- nothing was printed; a disk failure is that of another action than `open`; and an output failure is that of a print
 -- that failed
-pub record Performs {F W : Type 0} (state_of : F → FileState) (left_in : F → Option (List ℕ))
+pub record Performs {F W : Type 0} (T : Type 0) (state_of : F → FileState) (left_in : F → Option (List ℕ))
     (contents : W → Option (List ℕ)) (failed : W → Bool) (action : Action)
     (input : InputRead) (old : W) (result : Result Status Failure) (new : W) : Type 0 where
-  pub does : IfOk result (Does state_of left_in action input (contents old) (contents new))
+  pub does : IfOk result (Does T state_of left_in action input (contents old) (contents new))
   pub status : IfOk result (λ end. (end ≡ ends.Done) ⊎ (end ≡ ends.Refused))
   pub usage : IfErr result (λ failure. failure_status failure ≡ ends.Usage → WrongValues action × (new ≡ old))
   pub disk : IfErr result (λ failure. failure_status failure ≡ ends.Disk
       → (action ≢ Open) × HasPrinted action (contents old) (contents new))
   pub before : IfErr result (λ failure. failure ≢ Output → HasPrinted action (contents old) (contents new))
-  pub fails : IfErr result (FailsAs state_of left_in action input (contents old) (contents new))
+  pub fails : IfErr result (FailsAs T state_of left_in action input (contents old) (contents new))
   pub broken : IfErr result (λ failure. failure ≡ Output → failed new ≡ true)
 
 -- how a run fails: its words are refused, or help cannot be printed, or the words are accepted and name an action that
 -- fails with this failure
-abbrev pub FailsFor : {F : Type 0} → (F → FileState) → (F → Option (List ℕ)) → List Text → InputRead
+abbrev pub FailsFor : {F : Type 0} → Type 0 → (F → FileState) → (F → Option (List ℕ)) → List Text → InputRead
     → Option (List ℕ) → Option (List ℕ) → Failure → Type 0
-FailsFor state_of left_in words octets before after failure =
+FailsFor T state_of left_in words octets before after failure =
     ((fault : UsageFault) × (failure ≡ failure_of_words fault))
     ⊎ ((topic : Topic) × AsksFor words topic × (failure ≡ Output))
     ⊎ ((takes macsecd words ≡ true)
     × (action : Action) × Names (subcommand_of macsecd words) action
-    × FailsAs state_of left_in action octets before after failure)
+    × FailsAs T state_of left_in action octets before after failure)
 
 -- what was printed before a failure: nothing, or the lines of the commands, frames or verdicts before it
 abbrev pub PrintedBefore : List Text → Option (List ℕ) → Option (List ℕ) → Type 0
@@ -216,11 +219,11 @@ HasWrongValues words =
 -- failure is that of words that do not ask for help, and nothing was printed; a disk failure is that of an action in
 -- the words, other than `open`; and an output failure is that of a print that failed. The input is left unread unless
 -- the words name `open`
-pub record Acts {F R W : Type 0} (state_of : F → FileState) (left_in : F → Option (List ℕ))
+pub record Acts {F R W : Type 0} (T : Type 0) (state_of : F → FileState) (left_in : F → Option (List ℕ))
     (remaining : R → Option (List ℕ)) (read_failed : R → Bool) (contents : W → Option (List ℕ)) (failed : W → Bool)
     (words : List Text) (input : R) (old : W) (result : Result Status Failure) (left : R) (new : W) : Type 0 where
   pub replied : IfOk result
-      (Replies state_of left_in words (read_of remaining read_failed input left) (contents old) (contents new))
+      (Replies T state_of left_in words (read_of remaining read_failed input left) (contents old) (contents new))
   pub status : IfOk result (λ end. (end ≡ ends.Done) ⊎ (end ≡ ends.Refused))
   pub usage : IfErr result (λ failure. failure_status failure ≡ ends.Usage
       → (AreRefused words ⊎ HasWrongValues words) × (new ≡ old))
@@ -230,7 +233,7 @@ pub record Acts {F R W : Type 0} (state_of : F → FileState) (left_in : F → O
       × HasPrinted action (contents old) (contents new))
   pub before : IfErr result (λ failure. failure ≢ Output → PrintedBefore words (contents old) (contents new))
   pub fails : IfErr result
-      (FailsFor state_of left_in words (read_of remaining read_failed input left) (contents old) (contents new))
+      (FailsFor T state_of left_in words (read_of remaining read_failed input left) (contents old) (contents new))
   pub broken : IfErr result (λ failure. failure ≡ Output → failed new ≡ true)
   pub unread : ((takes macsecd words ≡ true) × Names (subcommand_of macsecd words) Open → ⊥) → left ≡ input
 

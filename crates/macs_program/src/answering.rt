@@ -6,7 +6,8 @@ ghost use Rattle.macs_commands.specs.Requests.{request_line};
 ghost use Rattle.macs_control.specs.Asking.{Outlives, Sends, SendsSome, conversation_of};
 ghost use Rattle.macs_cli.specs.Objects.{in_form, json_text};
 ghost use Rattle.macs_program.specs.Asking.{Asks, AsksForText, AsksInVain, FailsNowhere};
-ghost use Rattle.macs_program.specs.Asking.{FailsToEnd, IsUnheard, IsUnprinted, LacksDone};
+ghost use Rattle.macs_program.specs.Asking.{FailsToEnd, IsNoJson, IsUnheard, IsUnprinted};
+ghost use Rattle.macs_program.specs.Asking.{LacksDone};
 ghost use Rattle.macs_program.specs.Asking.{SaysNoMore, failure_in};
 
 use macs_cli::{DiskFault, Failure, Status, Stream, print_json, print_octets};
@@ -55,7 +56,7 @@ pub fn answer_to<S: Connection>(
     ensures asked { IfOk result (λ answer. Asks (conversation_of S.link asker.old) request.now
         answer.text.items answer.status (conversation_of S.link asker.new)) }
     ensures vain { IfErr result (λ failure. AsksInVain (conversation_of S.link asker.old)
-        request.now (conversation_of S.link asker.new)) }
+        request.now failure (conversation_of S.link asker.new)) }
     ensures failed { IfErr result IsUnheard }
 {
     send_request(alloc, asker, request)?;
@@ -93,13 +94,12 @@ fn done_answer<S: Connection>(
     Ok(answer)
 }
 
-/// Prints the text of an answer as JSON. Fails with `Memory`; with `Control` if the text is not
-/// UTF-8, as a relay's text always is; and with `Output`.
+/// Prints the text of an answer as JSON. Fails with `Memory`; with `Control` only if the text is
+/// not UTF-8, as a relay's text always is; and with `Output`.
 fn print_as_json<W: Stream>(alloc: Global, text: &[u8], out: &mut W) -> Result<(), Failure>
     ensures printed { OnOk result
         (Appends (W.contents out.old) (W.contents out.new) (json_text text.now)) }
-    ensures failed { IfErr result
-        (λ failure. (failure ≡ Failure.Output) ⊎ IsUnheard failure) }
+    ensures failed { IfErr result (IsNoJson text.now) }
     ensures silent { IfErr result (λ failure. failure ≢ Failure.Output → out.new ≡ out.old) }
     ensures broken { IfErr result (λ failure. failure ≡ Failure.Output → W.failed out.new ≡ true) }
 {
@@ -118,7 +118,7 @@ fn print_text<W: Stream>(
 ) -> Result<(), Failure>
     ensures printed { OnOk result
         (Appends (W.contents out.old) (W.contents out.new) (in_form is_json text.now)) }
-    ensures failed { IfErr result (IsUnprinted is_json) }
+    ensures failed { IfErr result (IsUnprinted is_json text.now) }
     ensures silent { IfErr result (λ failure. failure ≢ Failure.Output → out.new ≡ out.old) }
     ensures broken { IfErr result (λ failure. failure ≡ Failure.Output → W.failed out.new ≡ true) }
 {

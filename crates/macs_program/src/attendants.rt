@@ -1,10 +1,13 @@
 //! The desk that attends a relay, and what it consists of.
 
-ghost use Rattle.std.specs.Prelude.{◌≡◌, ◌⊎◌, IfErr};
+ghost use Rattle.std.specs.Prelude.{◌≡◌, ◌⊎◌, IfErr, IfOk, is_some};
+ghost use Rattle.macs_control.specs.ControlSockets.{IsUnused};
+ghost use Rattle.macs_control.specs.MetricsFiles.{IsPlaceAt};
+ghost use Rattle.macs_program.specs.Attendants.{IsNewDesk, sleep_of};
 
 use crate::build::this_program;
 use crate::counters_name::refuse_other_file;
-use crate::pacing::limit_of;
+use crate::pacing::sleep_of;
 use crate::relay_system::RelaySystem;
 use macs_cli::{Failure, Running};
 use macs_control::desk::{ControlDesk, report_paper};
@@ -29,12 +32,12 @@ fn clients_for<'a, T: Files + Net + Clock>(
     running: &Running<'a>,
     wires: Wires,
 ) -> Result<ControlSocket<'a, T>, Failure>
-    ensures { IfErr result (λ failure. (failure ≡ Failure.Memory) ⊎ (failure ≡ Failure.Control)) }
+    ensures unused { IfOk result
+        (IsUnused (is_some running.now.control) wires (sleep_of running.now.pace)) }
+    ensures failed { IfErr result
+        (λ failure. (failure ≡ Failure.Memory) ⊎ (failure ≡ Failure.Control)) }
 {
-    let limit = match limit_of(running.pace) {
-        Some(limit) => limit.0,
-        None => 0,
-    };
+    let limit = sleep_of(running.pace);
     let clients = ControlSocket::bind(rt, alloc, running.control, wires, limit)?;
     Ok(clients)
 }
@@ -50,7 +53,10 @@ fn desk_over<'a, T: Files + Net + Clock>(
     wires: Wires,
     metrics: MetricsPlace<'a, T>,
 ) -> Result<SystemDesk<'a, T>, Failure>
-    ensures { IfErr result (λ failure. (failure ≡ Failure.Memory) ⊎ (failure ≡ Failure.Control)) }
+    requires { IsPlaceAt running.now.metrics metrics }
+    ensures new { IfOk result (IsNewDesk disk.now running.now wires) }
+    ensures failed { IfErr result
+        (λ failure. (failure ≡ Failure.Memory) ⊎ (failure ≡ Failure.Control)) }
 {
     let program = this_program(rt, alloc)?;
     let paper = report_paper(alloc)?;
@@ -73,7 +79,9 @@ fn place_for<'a, T: Files + Clock>(
     alloc: Global,
     path: Option<&'a str>,
 ) -> Result<MetricsPlace<'a, T>, Failure>
-    ensures { IfErr result (λ failure. (failure ≡ Failure.Memory) ⊎ (failure ≡ Failure.Control)) }
+    ensures place { IfOk result (IsPlaceAt path.entry) }
+    ensures failed { IfErr result
+        (λ failure. (failure ≡ Failure.Memory) ⊎ (failure ≡ Failure.Control)) }
 {
     if let Some(name) = path {
         refuse_other_file(rt, alloc, name)?;
@@ -93,7 +101,9 @@ pub fn desk_for<'a, T: Files + Net + Clock>(
     running: &Running<'a>,
     wires: Wires,
 ) -> Result<SystemDesk<'a, T>, Failure>
-    ensures { IfErr result (λ failure. (failure ≡ Failure.Memory) ⊎ (failure ≡ Failure.Control)) }
+    ensures new { IfOk result (IsNewDesk disk.now running.now wires) }
+    ensures failed { IfErr result
+        (λ failure. (failure ≡ Failure.Memory) ⊎ (failure ≡ Failure.Control)) }
 {
     let metrics = place_for(rt, alloc, running.metrics)?;
     desk_over(rt, alloc, disk, running, wires, metrics)

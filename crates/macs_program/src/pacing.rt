@@ -1,6 +1,7 @@
 //! What the pace of a relay comes to: its turns, its sleeps, and the receives that its wires skip.
 
 ghost use Rattle.std.specs.Prelude.{◌≡◌};
+ghost use Rattle.macs_program.specs.Attendants.{sleep_of};
 ghost use Rattle.macs_program.specs.Relaying.{left_out, limit_of, turns_of};
 
 use macs_cli::{Milliseconds, Pace};
@@ -43,6 +44,16 @@ pub fn limit_of(pace: Pace) -> Option<Milliseconds>
     match pace {
         Pace::Sleepless { .. } => None,
         Pace::Waiting { limit, .. } => Some(limit),
+    }
+}
+
+/// The longest sleep of a desk, in milliseconds: 0 if the relay does not sleep.
+pub fn sleep_of(pace: Pace) -> u16
+    ensures { result ≡ sleep_of pace }
+{
+    match pace {
+        Pace::Sleepless { turns: _ } => 0,
+        Pace::Waiting { limit, .. } => limit.0,
     }
 }
 

@@ -18,8 +18,7 @@ ghost use Rattle.macs_offline.specs.Openings.{OpeningFails};
 ghost use Rattle.macs_offline.specs.Trying.{LookFails, TriesIn};
 ghost use Rattle.macs_cli.specs.declared.addresses.AddressFault.{AddressFault};
 ghost use Rattle.macs_program.specs.Relaying.{ComesTo, IsOfRelay, IsUnbound, RelayEndsIn, Reports};
-ghost use Rattle.macs_program.specs.Relaying.{attended, course_of, is_attended, new_wire};
-ghost use Rattle.macs_program.specs.Relaying.{turns_of, unattended};
+ghost use Rattle.macs_program.specs.Relaying.{course_of, is_attended, new_wire, turns_of};
 ghost use Rattle.macs_program.specs.Summing.{relay_line};
 ghost use Rattle.macs_program.specs.Tasks.{DoesRelay};
 
@@ -57,14 +56,15 @@ fn serve<D: SectorDisk, C: Clients, M: Metrics, S: Overruns + KeyNotes + Time, W
     pace: Pace,
     out: &mut W,
 ) -> Result<Status, Failure>
+    requires none_waits { endpoint.old.waiting ≡ [] }
+    requires none { entries_of desk.old.unanswered ≡ [] }
     requires controlled { ⟦<UdpWire<Global, UdpSocket> as Wire>⟧.state wires.controlled ≡ new_wire }
     requires common { ⟦<UdpWire<Global, UdpSocket> as Wire>⟧.state wires.common ≡ new_wire }
     ensures { (answer : Result RelaySummary RefillFault) × (events : List DeskEvent)
         × (controlled common : WireState) × IsAttended D.disk (turns_of pace)
         (relay_of endpoint.old new_wire new_wire empty_lane empty_lane) events answer endpoint.new
         controlled common
-        × (endpoint.old.waiting ≡ [] → entries_of desk.old.unanswered ≡ []
-        → ServesClients C.does desk.old events desk.new)
+        × ServesClients C.does desk.old events desk.new
         × Reports W.contents W.failed answer out.old result out.new }
 {
     clients_are_served::<D, C, M, S>();
@@ -85,7 +85,8 @@ struct RelayWires<'a, T> {
 }
 
 impl<T: Files + Net + Clock + Env> RelayWires<'_, T> {
-    ghost use Rattle.macs_program.specs.Relaying.{attended, turns_of, unattended};
+    ghost use Rattle.std.specs.Prelude.{◌≡◌, [], true, false};
+    ghost use Rattle.macs_program.specs.Relaying.{course_with};
     ghost use Rattle.macs_program.specs.Tasks.{DoesRelay};
 
     /// A desk attends the relay. The program's parent is notified once everything is bound, and
@@ -95,8 +96,10 @@ impl<T: Files + Net + Clock + Env> RelayWires<'_, T> {
         endpoint: &mut Endpoint<D>,
         out: &mut W,
     ) -> Result<Status, Failure>
-        ensures { DoesRelay D.disk W.contents W.failed (attended (turns_of self.entry.running.pace))
-            endpoint.old out.old result endpoint.new out.new }
+        requires { endpoint.old.waiting ≡ [] }
+        ensures { DoesRelay D.disk W.contents W.failed
+            (course_with T true self.entry.disk.now self.entry.running) endpoint.old out.old result
+            endpoint.new out.new }
     {
         let RelayWires {
             rt,
@@ -121,7 +124,7 @@ impl<T: Files + Net + Clock + Env> RelayWires<'_, T> {
         out: &mut W,
     ) -> Result<Status, Failure>
         ensures { DoesRelay D.disk W.contents W.failed
-            (unattended (turns_of self.entry.running.pace)) endpoint.old out.old result
+            (course_with T false self.entry.disk.now self.entry.running) endpoint.old out.old result
             endpoint.new out.new }
     {
         let RelayWires { wires, running, .. } = self;
@@ -134,7 +137,8 @@ impl<T: Files + Net + Clock + Env> RelayWires<'_, T> {
 }
 
 impl<T: Files + Net + Clock + Env, D: SectorDisk, W: Stream> Task<D, W> for RelayWires<'_, T> {
-    ghost does = { λ task. DoesRelay D.disk W.contents W.failed (course_of task.running) };
+    ghost does = { λ task. DoesRelay D.disk W.contents W.failed
+        (course_of T task.disk.now task.running) };
 
     #[inline(never)]
     fn run(self, endpoint: &mut Endpoint<D>, out: &mut W) -> Result<Status, Failure> {
@@ -176,7 +180,8 @@ pub fn relay<'a, T: Files + Net + Clock + Env, W: Stream>(
 where
     T::File: CaptureFile,
     ensures printed { IfOk result
-        (λ status. (summary : RelaySummary) × ComesTo T.File.file (course_of running.entry) summary
+        (λ status. (summary : RelaySummary)
+        × ComesTo T.File.file (course_of T disk.now running.entry) summary
         × SpellsBoth controlled.entry common.entry
         × Appends (W.contents out.old) (W.contents out.new) (relay_line summary)
         × (status ≡ Status.Done)) }
@@ -190,7 +195,7 @@ where
         × IsFirst (AddressFaultHolds controlled.entry common.entry) address_faults fault)
         ⊎ IsUnbound T.File.file failure
         ⊎ OpeningFails T.File.file failure
-        ⊎ RelayEndsIn T.File.file (course_of running.entry) failure) }
+        ⊎ RelayEndsIn T.File.file (course_of T disk.now running.entry) failure) }
     ensures names { IfErr result IsOfRelay }
     ensures silent { IfErr result (λ failure. failure ≢ Failure.Output → out.new ≡ out.old) }
     ensures broken { IfErr result (λ failure. failure ≡ Failure.Output → W.failed out.new ≡ true) }

@@ -96,7 +96,7 @@ fn perform<T: Files + Net + Clock + Env + RandomSource, R: Input, W: Stream>(
 ) -> Result<Status, Failure>
 where
     T::File: CaptureFile,
-    ensures performs { Performs T.File.file T.File.remaining W.contents W.failed action.entry
+    ensures performs { Performs T T.File.file T.File.remaining W.contents W.failed action.entry
         (read_of R.remaining R.failed input.old input.new) out.old result out.new }
     ensures unread { action.entry ≢ Action.Open → input.new ≡ input.old }
 {
@@ -118,7 +118,7 @@ fn perform_on_disk<T: Files, W: Stream>(
 where
     T::File: CaptureFile,
     ensures { (input : InputRead)
-        → Performs T.File.file T.File.remaining W.contents W.failed (Action.OnDisk action.entry)
+        → Performs T T.File.file T.File.remaining W.contents W.failed (Action.OnDisk action.entry)
         input out.old result out.new }
 {
     match action {
@@ -147,7 +147,7 @@ fn perform_on_frames<T: Files + Net + Clock + Env, W: Stream>(
 where
     T::File: CaptureFile,
     ensures { (input : InputRead)
-        → Performs T.File.file T.File.remaining W.contents W.failed (Action.OnFrames action.entry)
+        → Performs T T.File.file T.File.remaining W.contents W.failed (Action.OnFrames action.entry)
         input out.old result out.new }
 {
     match action {
@@ -189,7 +189,8 @@ fn perform_tool<T: Files + Net + RandomSource, W: Stream>(
 where
     T::File: CaptureFile,
     ensures { (input : InputRead)
-        → Performs T.File.file T.File.remaining W.contents W.failed (Action.Tool action.entry) input
+        → Performs T T.File.file T.File.remaining W.contents W.failed
+        (Action.Tool action.entry) input
         out.old result out.new }
 {
     match action {
@@ -217,7 +218,7 @@ fn act<T: Files + Net + Clock + Env + RandomSource, R: Input, W: Stream>(
 ) -> Result<Status, Failure>
 where
     T::File: CaptureFile,
-    ensures { Acts T.File.file T.File.remaining R.remaining R.failed W.contents W.failed
+    ensures { Acts T T.File.file T.File.remaining R.remaining R.failed W.contents W.failed
         (texts words.now) input.old out.old result input.new out.new }
 {
     if let Some(topic) = topic_of(words) {
@@ -273,13 +274,13 @@ where
     // refused: the words are accepted, this is the failure of their action, and its line is printed
     // on standard error, whole, unless that fails.
     ensures replied { (result ≡ 0) ⊎ (result ≡ 3) → ((status : Status) × (result ≡ code_of status)
-        × Replies T.File.file T.File.remaining (texts words.now)
+        × Replies T T.File.file T.File.remaining (texts words.now)
         (read_of R.remaining R.failed input.old input.new) (W.contents out.old)
         (W.contents out.new) status × (err.new ≡ err.old))
         ⊎ ((refusal : LinkRefusal) × (result ≡ 3)
         × PrintsUnlessFailed (E.contents err.old) (E.contents err.new) (E.failed err.new)
         (complaint (Failure.Link refusal))
-        × FailsFor T.File.file T.File.remaining (texts words.now)
+        × FailsFor T T.File.file T.File.remaining (texts words.now)
         (read_of R.remaining R.failed input.old input.new) (W.contents out.old)
         (W.contents out.new) (Failure.Link refusal)
         × PrintedBefore (texts words.now) (W.contents out.old) (W.contents out.new)) }
@@ -304,7 +305,7 @@ where
         → (failure : Failure) × (result ≡ code_of (failure_status failure))
         × PrintsUnlessFailed (E.contents err.old) (E.contents err.new) (E.failed err.new)
         (complaint failure)
-        × FailsFor T.File.file T.File.remaining (texts words.now)
+        × FailsFor T T.File.file T.File.remaining (texts words.now)
         (read_of R.remaining R.failed input.old input.new) (W.contents out.old)
         (W.contents out.new) failure
         × (failure ≢ Failure.Output

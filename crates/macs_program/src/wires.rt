@@ -1,8 +1,15 @@
 //! The wires of a relay: two UDP sockets.
 
-ghost use Rattle.std.specs.Prelude.{◌≡◌, ◌⊎◌, IfErr, IfOk};
-ghost use Rattle.macs_edge.specs.UdpWires.{peer_of};
-ghost use Rattle.macs_program.specs.Relaying.{new_wire};
+ghost use Rattle.std.specs.Prelude.{◌≡◌, ◌⊎◌, IfErr, IfOk, List, Result};
+ghost use Rattle.macs_commands.specs.InTurn.{InTurn};
+ghost use Rattle.macs_edge.specs.Attending.{IsAttended};
+ghost use Rattle.macs_edge.specs.Relaying.{empty_lane, relay_of};
+ghost use Rattle.macs_edge.specs.UdpWires.{peer_of, udp_wire_state};
+ghost use Rattle.macs_edge.specs.Wires.{WireState};
+ghost use Rattle.macs_edge.specs.declared.attending.DeskEvent.{DeskEvent};
+ghost use Rattle.macs_edge.specs.declared.relaying.RelaySummary.{RelaySummary};
+ghost use Rattle.macs_endpoint.specs.declared.fault.RefillFault.{RefillFault};
+ghost use Rattle.macs_program.specs.Relaying.{IsSparedAt, Reports, SparesAt, new_wire, turns_of};
 
 use crate::pacing::{left_out, turns_of};
 use crate::relaying::relay_frames;
@@ -80,6 +87,43 @@ pub fn bind_wires<N: Net>(
     Ok(Wires { controlled, common })
 }
 
+/// The same wire, which skips as many receives as a relay with this pace.
+fn spared(wire: UdpWire<Global>, pace: Pace) -> SparedWire
+    ensures state { udp_wire_state result ≡ udp_wire_state wire }
+    ensures spared { SparesAt pace wire result }
+{
+    wire.sparing(left_out(pace))
+}
+
+/// Relays frames between wires that skip as many receives as a relay with this pace, attended by a
+/// desk, and prints what became of them.
+fn relay_spared<D: SectorDisk, K: Desk<D, SparedWire, SparedWire>, W: Stream>(
+    mut controlled: SparedWire,
+    mut common: SparedWire,
+    endpoint: &mut Endpoint<D>,
+    desk: &mut K,
+    pace: Pace,
+    out: &mut W,
+) -> Result<Status, Failure>
+    requires controlled { IsSparedAt pace controlled }
+    requires common { IsSparedAt pace common }
+    ensures { (answer : Result RelaySummary RefillFault) × (events : List DeskEvent)
+        × (left right : WireState) × IsAttended D.disk (turns_of pace)
+        (relay_of endpoint.old (udp_wire_state controlled) (udp_wire_state common) empty_lane
+        empty_lane) events answer endpoint.new left right
+        × InTurn K.hears desk.old events desk.new
+        × Reports W.contents W.failed answer out.old result out.new }
+{
+    relay_frames(
+        endpoint,
+        &mut controlled,
+        &mut common,
+        desk,
+        turns_of(pace),
+        out,
+    )
+}
+
 impl Wires {
     ghost use Rattle.std.specs.Prelude.{◌≡◌, IfSome, List, Result};
     ghost use Rattle.macs_edge.specs.Attending.{IsAttended};
@@ -123,15 +167,8 @@ impl Wires {
             × Reports W.contents W.failed answer out.old result out.new }
     {
         let Wires { controlled, common } = self;
-        let mut controlled = controlled.sparing(left_out(pace));
-        let mut common = common.sparing(left_out(pace));
-        relay_frames(
-            endpoint,
-            &mut controlled,
-            &mut common,
-            desk,
-            turns_of(pace),
-            out,
-        )
+        let controlled = spared(controlled, pace);
+        let common = spared(common, pace);
+        relay_spared(controlled, common, endpoint, desk, pace, out)
     }
 }

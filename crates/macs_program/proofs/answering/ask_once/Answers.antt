@@ -20,9 +20,10 @@ returns-in_err-print_text g c =
     text-unprinted g.W.Stream.contents g.W.Stream.failed c.args.request SaysNoMore FailsNowhere c.args.is_json
     (conversation_of g.S.Connection.link c.args.asker.now) c.args.out.now
     (conversation_of g.S.Connection.link c.done_answer.new.asker)
-    (conversation_of g.S.Connection.link c.done_answer.new.asker) c.in_ok-answer.answer.text.items
+    (conversation_of g.S.Connection.link c.done_answer.new.asker) c.in_ok-answer.answer.text.items c.as_slice.result.now
     c.print_text.new.out c.in_err-print_text.field-0.0 p.0 c.from_residual-in_err-print_text.result p.1 p.2
-    c.in_ok-answer.ensures.asked refl c.in_err-print_text.ensures.failed c.in_err-print_text.ensures.silent
+    c.in_ok-answer.ensures.asked refl c.as_slice.ensures.value c.in_err-print_text.ensures.failed
+    c.in_err-print_text.ensures.silent
     c.in_err-print_text.ensures.broken
 
 pub returns : goal.returns

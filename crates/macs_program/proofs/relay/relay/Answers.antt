@@ -9,7 +9,7 @@ returns-in_err-addresses g c =
     let p = err_from_is_err_and c.from_residual.result c.from_residual.ensures.1 in
     let all =
     refused-in g.T.File.DiskFile.file g.W.Stream.contents g.W.Stream.failed c.args.controlled c.args.common
-    (course_of c.args.running) c.args.out.now
+    (course_of g.row.T.Denot c.args.disk.now c.args.running) c.args.out.now
     c.addresses_of.result c.addresses_of.ensures.fault c.in_err-addresses.field-0.0 p.0 c.from_residual.result
     c.in_err-addresses.was p.1 p.2 in
     record {
@@ -27,7 +27,7 @@ returns-in-Ok g c =
     let words = c.in_ok-addresses in
     let all =
     relayed-in g.T.File.DiskFile.file g.W.Stream.contents g.W.Stream.failed c.args.controlled c.args.common
-    (course_of c.args.running) c.args.out.now
+    (course_of g.row.T.Denot c.args.disk.now c.args.running) c.args.out.now
     c.addresses_of.result c.addresses_of.ensures.fault words.addresses c.with_file.new.out c.with_file.result words.was
     (words.addresses.controlled, words.addresses.common, words.ensures.controlled, words.ensures.common)
     c.with_file.ensures in
@@ -46,7 +46,7 @@ returns-in-Err g c =
     let words = c.in_ok-addresses in
     let all =
     unbound-in g.T.File.DiskFile.file g.W.Stream.contents g.W.Stream.failed c.args.controlled c.args.common
-    (course_of c.args.running) c.args.out.now
+    (course_of g.row.T.Denot c.args.disk.now c.args.running) c.args.out.now
     c.addresses_of.result c.addresses_of.ensures.fault words.addresses c.unbound.result (Err c.unbound.result)
     words.was refl
     c.unbound.ensures.unbound in

@@ -9,7 +9,7 @@ returns g c =
       controlled,
       common,
       attended,
-      λ none_waits none. c.clients_are_served.ensures _ _ _ events _ _ answer refl refl none_waits none attended.2
+      c.clients_are_served.ensures _ _ _ events _ _ answer refl refl c.requires.none_waits c.requires.none attended.2
           heard,
       reported,
     )

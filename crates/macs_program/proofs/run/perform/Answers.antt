@@ -4,7 +4,7 @@ use Rattle.macs_program.proofs.run.perform.Goals as goal
 
 pub returns-in-Open-clause-performs : goal.returns-in-Open-clause-performs
 returns-in-Open-clause-performs g c =
-    rw c.in-Open.is (opens _ _ _ _ _ _ _ _ c.open_input.ensures.printed c.open_input.ensures.status
+    rw c.in-Open.is (opens g.row.T.Denot _ _ _ _ _ _ _ _ c.open_input.ensures.printed c.open_input.ensures.status
     c.open_input.ensures.failed c.open_input.ensures.silent c.open_input.ensures.ended c.open_input.ensures.broken)
 
 pub returns-in-OnDisk-clause-performs : goal.returns-in-OnDisk-clause-performs

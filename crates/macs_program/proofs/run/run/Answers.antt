@@ -39,7 +39,7 @@ returns-in-Err-clause-replied g c = λ which.
     inr (refused-link
     (λ failure. PrintsUnlessFailed (g.E.Stream.contents c.args.err.now) (g.E.Stream.contents c.report.new.err)
     (g.E.Stream.failed c.report.new.err) (complaint failure))
-    (λ failure. FailsFor g.T.File.DiskFile.file g.T.File.Read.remaining (texts c.args.words.now)
+    (λ failure. FailsFor g.row.T.Denot g.T.File.DiskFile.file g.T.File.Read.remaining (texts c.args.words.now)
     (read_of g.R.Input.remaining g.R.Input.failed c.args.input.now c.act.new.input)
     (g.W.Stream.contents c.args.out.now) (g.W.Stream.contents c.act.new.out) failure)
     _ c.in-Err.failure c.report.result c.report.ensures.status c.report.ensures.printed c.in-Err.ensures.fails
