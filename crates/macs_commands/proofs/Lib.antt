@@ -2,7 +2,6 @@ mod Counted
 mod KeysBeside
 pub mod Reading
 mod Undecoded
-mod Pairs
 mod Inserted
 mod KeyDigits
 mod Readable
@@ -17,7 +16,6 @@ mod Keyed
 mod Blanks
 mod Values
 mod Told
-mod Whole
 mod Lengths
 mod Feeds
 pub mod InTurns

@@ -21,7 +21,7 @@ use Rattle.macs_commands.specs.declared.links.plan_fault.PlanFault.{PlanFault}
 use Rattle.macs_commands.specs.declared.links.plan_fault.PlanFault.TheVariants as fault
 use Rattle.macs_commands.specs.declared.links.plan_fault.ValueName.{ValueName}
 use Rattle.macs_commands.specs.declared.links.plan_fault.ValueName.TheVariants as name
-use Rattle.macs_commands.proofs.Pairs.{is_table_of}
+use Rattle.macs_commands.proofs.Reading.{is_table_of}
 use Rattle.macs_commands.proofs.Sound.{from_file, from_tables, link_with, passed, same_link, with_earlier}
 
 -- ---- values at a key

@@ -1,5 +1,5 @@
--- Commands by their words, and the texts of these.
-use Rattle.std.proofs.Common.{◌≡◌, ℕ, Bool, List, Some, codes, refl, subst}
+-- Commands by their words.
+use Rattle.std.proofs.Common.{◌≡◌, ℕ, Bool, List, subst}
 use Rattle.macs_aes.specs.declared.keys.Key.{Key}
 use Rattle.macs_config.specs.declared.command.Command.{Command}
 use Rattle.macs_config.specs.declared.command.Command.TheVariants.{SetValidate, SetReplay, SetSciMode}
@@ -7,38 +7,9 @@ use Rattle.macs_config.specs.declared.command.Command.TheVariants.{TxInstall, Tx
 use Rattle.macs_config.specs.declared.command.Command.TheVariants.{RxAdd, RxDrop, RxInstall, RxRemove}
 use Rattle.macs_config.specs.declared.command.SciMode.{SciMode}
 use Rattle.macs_config.specs.declared.command.Validate.{Validate}
-use Rattle.macs_commands.specs.Words.{word_of, word_spelled, word_text}
+use Rattle.macs_commands.specs.Words.{word_of}
 use Rattle.macs_commands.specs.declared.command_word.CommandWord.{CommandWord}
 use Rattle.macs_commands.specs.declared.command_word.CommandWord.TheVariants as words
-use Rattle.macs_commands.proofs.Blanks.{Lacks, lacks}
-
--- ---- the word of a command
-
--- it has no blank
-pub word_lacks : (command : Command) → Lacks 32 (word_text (word_of command))
-word_lacks (SetValidate mode) = lacks 32 (codes "set-validate") refl
-word_lacks (SetReplay on window) = lacks 32 (codes "set-replay") refl
-word_lacks (SetSciMode mode) = lacks 32 (codes "set-sci-mode") refl
-word_lacks (TxInstall an key start confidential offset) = lacks 32 (codes "tx-install") refl
-word_lacks (TxUse an) = lacks 32 (codes "tx-use") refl
-word_lacks (TxRemove an) = lacks 32 (codes "tx-remove") refl
-word_lacks (RxAdd sci) = lacks 32 (codes "rx-add") refl
-word_lacks (RxDrop sci) = lacks 32 (codes "rx-drop") refl
-word_lacks (RxInstall sci an key start offset) = lacks 32 (codes "rx-install") refl
-word_lacks (RxRemove sci an) = lacks 32 (codes "rx-remove") refl
-
--- it names the word of the command
-pub named : (command : Command) → word_spelled (word_text (word_of command)) ≡ Some (word_of command)
-named (SetValidate mode) = refl
-named (SetReplay on window) = refl
-named (SetSciMode mode) = refl
-named (TxInstall an key start confidential offset) = refl
-named (TxUse an) = refl
-named (TxRemove an) = refl
-named (RxAdd sci) = refl
-named (RxDrop sci) = refl
-named (RxInstall sci an key start offset) = refl
-named (RxRemove sci an) = refl
 
 -- ---- the commands of a word
 

@@ -9,15 +9,10 @@ use Rattle.macs_aes.specs.Keys.{HasItsLength, octets_of_key}
 use Rattle.macs_aes.specs.declared.keys.Key.{Key}
 use Rattle.macs_aes.specs.declared.keys.Key.TheVariants.{Long, Short}
 use Rattle.macs_config.specs.Apply.{IsKey}
-use Rattle.macs_config.specs.declared.command.SciMode.{SciMode}
-use Rattle.macs_config.specs.declared.command.SciMode.TheVariants.{Explicit, EndStation, Implicit}
-use Rattle.macs_config.specs.declared.command.Validate.{Validate}
-use Rattle.macs_config.specs.declared.command.Validate.TheVariants.{Strict, Check}
 use Rattle.macs_fields.specs.Fields.{IsSci}
 use Rattle.macs_commands.specs.CommandLines.{key_digits}
 use Rattle.macs_commands.specs.Digits.{key_of, octets_of}
-use Rattle.macs_commands.specs.Words.{protection_word, replay_word, sci_mode_spelled, sci_mode_word, validate_spelled}
-use Rattle.macs_commands.specs.Words.{validate_word}
+use Rattle.macs_commands.specs.Words.{protection_word}
 use Rattle.macs_commands.proofs.Blanks.{Lacks, hex_lacks, lacks}
 use Rattle.macs_commands.proofs.KeyDigits.{bytes_of, each_octet, key_read, octets_read}
 
@@ -60,23 +55,6 @@ key_lacks (Short octets) is size = hex_lacks 16 octets size (bytes_of octets (ea
 key_lacks (Long octets) is size = hex_lacks 32 octets size (bytes_of octets (each_octet octets is))
 
 -- ---- modes and flags
-
-pub validate_said : (mode : Validate) (word : List ℕ) → word ≡ validate_word mode → validate_spelled word ≡ Some mode
-validate_said Strict word is = ap (λ (w : List ℕ). validate_spelled w) is
-validate_said Check word is = ap (λ (w : List ℕ). validate_spelled w) is
-
-pub sci_mode_said : (mode : SciMode) (word : List ℕ) → word ≡ sci_mode_word mode → sci_mode_spelled word ≡ Some mode
-sci_mode_said Explicit word is = ap (λ (w : List ℕ). sci_mode_spelled w) is
-sci_mode_said EndStation word is = ap (λ (w : List ℕ). sci_mode_spelled w) is
-sci_mode_said Implicit word is = ap (λ (w : List ℕ). sci_mode_spelled w) is
-
-pub on_said : (on : Bool) (word : List ℕ) → word ≡ replay_word on → bytes_eq word (codes "on") ≡ on
-on_said true word is = ap (λ (w : List ℕ). bytes_eq w (codes "on")) is
-on_said false word is = ap (λ (w : List ℕ). bytes_eq w (codes "on")) is
-
-pub replay_lacks : (on : Bool) → Lacks 32 (replay_word on)
-replay_lacks true = lacks 32 (codes "on") refl
-replay_lacks false = lacks 32 (codes "off") refl
 
 pub confidential_said : (confidential : Bool) (word : List ℕ) → word ≡ protection_word confidential
     → bytes_eq word (codes "confidential") ≡ confidential

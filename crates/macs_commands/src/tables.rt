@@ -47,52 +47,37 @@ pub fn value<'a>(table: &'a Table, key: &str) -> Option<&'a Value>
 pub(crate) fn text<'a>(table: &'a Table, key: &str) -> Option<&'a str>
     ensures { option_map (λ s. s.now) result ≡ text_at key.now (table_view table.now) }
 {
-    match value(table, key) {
-        Some(value) => value.as_str(),
-        None => None,
-    }
+    value(table, key)?.as_str()
 }
 
 /// The table at a key.
 pub(crate) fn table<'a>(table: &'a Table, key: &str) -> Option<&'a Table>
     ensures { option_map (λ t. table_view t.now) result ≡ table_at key.now (table_view table.now) }
 {
-    match value(table, key) {
-        Some(value) => value.as_table(),
-        None => None,
-    }
+    value(table, key)?.as_table()
 }
 
 /// The array at a key.
 pub(crate) fn array<'a>(table: &'a Table, key: &str) -> Option<&'a Array>
     ensures { option_map (λ v. array_view v.now) result ≡ items_at key.now (table_view table.now) }
 {
-    match value(table, key) {
-        Some(value) => value.as_array(),
-        None => None,
-    }
+    value(table, key)?.as_array()
 }
 
 /// The flag at a key.
 pub(crate) fn flag(table: &Table, key: &str) -> Option<bool>
     ensures { result ≡ flag_at key.now (table_view table.now) }
 {
-    match value(table, key) {
-        Some(value) => value.as_bool(),
-        None => None,
-    }
+    value(table, key)?.as_bool()
 }
 
 /// The number, if it is from 0 to `most`.
 fn number_to(value: &Value, most: u32) -> Option<u32>
     ensures { result ≡ number_to most (view value.now) }
 {
-    match value.as_integer() {
-        Some(number) => match u32::try_from(number) {
-            Ok(number) if number <= most => Some(number),
-            _ => None,
-        },
-        None => None,
+    match u32::try_from(value.as_integer()?) {
+        Ok(number) if number <= most => Some(number),
+        _ => None,
     }
 }
 
@@ -100,68 +85,47 @@ fn number_to(value: &Value, most: u32) -> Option<u32>
 pub(crate) fn number(table: &Table, key: &str, most: u32) -> Option<u32>
     ensures { result ≡ number_at key.now most (table_view table.now) }
 {
-    match value(table, key) {
-        Some(value) => number_to(value, most),
-        None => None,
-    }
+    number_to(value(table, key)?, most)
 }
 
 /// The association number at `an`.
 pub(crate) fn an(table: &Table) -> Option<An>
     ensures { result ≡ an_in (table_view table.now) }
 {
-    match number(table, "an", 3) {
-        Some(number) => An::new(number as u8),
-        None => None,
-    }
+    An::new(number(table, "an", 3)? as u8)
 }
 
 /// The SCI at `sci`.
 pub(crate) fn sci(table: &Table) -> Option<Sci>
     ensures { result ≡ sci_in (table_view table.now) }
 {
-    match text(table, "sci") {
-        Some(text) => sci_of(text.as_bytes()),
-        None => None,
-    }
+    sci_of(text(table, "sci")?.as_bytes())
 }
 
 /// The SAK at a key.
 pub(crate) fn key(table: &Table, name: &str) -> Option<Key>
     ensures { result ≡ key_at name.now (table_view table.now) }
 {
-    match text(table, name) {
-        Some(text) => key_of(text.as_bytes()),
-        None => None,
-    }
+    key_of(text(table, name)?.as_bytes())
 }
 
 /// The confidentiality offset at `offset`, in octets.
 pub(crate) fn offset(table: &Table) -> Option<u8>
     ensures { result ≡ offset_in (table_view table.now) }
 {
-    match number(table, "offset", 255) {
-        Some(number) => Some(number as u8),
-        None => None,
-    }
+    Some(number(table, "offset", 255)? as u8)
 }
 
 /// What is done with frames that do not verify, at `mode`.
 pub(crate) fn validate(table: &Table) -> Option<Validate>
     ensures { result ≡ validate_in (table_view table.now) }
 {
-    match text(table, "mode") {
-        Some(text) => validate_of(text),
-        None => None,
-    }
+    validate_of(text(table, "mode")?)
 }
 
 /// How frames name the channel, at `mode`.
 pub(crate) fn sci_mode(table: &Table) -> Option<SciMode>
     ensures { result ≡ sci_mode_in (table_view table.now) }
 {
-    match text(table, "mode") {
-        Some(text) => sci_mode_of(text),
-        None => None,
-    }
+    sci_mode_of(text(table, "mode")?)
 }

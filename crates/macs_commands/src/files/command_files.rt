@@ -127,8 +127,5 @@ fn key_beside(word: CommandWord, table: &Table) -> Option<&str>
 pub fn extra_key(table: &Table) -> Option<&str>
     ensures { option_map (λ key. key.now) result ≡ extra_key (table_view table.now) }
 {
-    match word(table) {
-        Some(word) => key_beside(word, table),
-        None => None,
-    }
+    key_beside(word(table)?, table)
 }

@@ -15,10 +15,7 @@ use toml::Table;
 pub(crate) fn word(table: &Table) -> Option<CommandWord>
     ensures { result ≡ word_in (table_view table.now) }
 {
-    match text(table, "do") {
-        Some(text) => CommandWord::spelled(text),
-        None => None,
-    }
+    CommandWord::spelled(text(table, "do")?)
 }
 
 /// Whether a key is one of these.

@@ -3,9 +3,8 @@
 ghost use Rattle.std.specs.Prelude.{◌≡◌, ◌≢◌, IfOk, IfErr, Ok, Err, Some, List, string_bytes};
 ghost use Rattle.toml.specs.View.{table_view};
 ghost use Rattle.macs_config.specs.declared.command.Command.{Command};
-ghost use Rattle.macs_commands.specs.Planning.{file_planned, first_keys, other_end, own_key};
-ghost use Rattle.macs_commands.specs.Planning.{pair_before, planned, receive_both, receives};
-ghost use Rattle.macs_commands.specs.Planning.{remove_earlier, sci_of, sends, start_sending};
+ghost use Rattle.macs_commands.specs.Planning.{file_planned, other_end, own_key, pair_before};
+ghost use Rattle.macs_commands.specs.Planning.{planned, receives, sci_of, sends};
 ghost use Rattle.macs_commands.specs.Writing.{PlansLinkText, PlansText};
 ghost use Rattle.macs_commands.specs.declared.links.plan_fault.PlanFault.TheVariants.{Memory};
 
@@ -101,63 +100,6 @@ fn listed<const N: usize>(alloc: Global, commands: [Command; N]) -> Result<Vec<C
     }
 }
 
-/// The commands that install the first keys.
-fn first_keys(alloc: Global, link: &Link, end: End) -> Result<Vec<Command>, PlanFault>
-    ensures commands { IfOk result (λ commands. commands.items ≡ first_keys link.now end) }
-    ensures fault { IfErr result (λ fault. fault ≡ Memory) }
-{
-    let newest = link.newest;
-    let commands = [
-        sends(&newest, end),
-        Command::TxUse { an: newest.an },
-        Command::RxAdd {
-            sci: sci_of(link, other_end(end)),
-        },
-        receives(link, &newest, end),
-    ];
-    listed(alloc, commands)
-}
-
-/// The command that lets an end also receive under the newest pair.
-fn receive_both(alloc: Global, link: &Link, end: End) -> Result<Vec<Command>, PlanFault>
-    ensures commands { IfOk result (λ commands. commands.items ≡ receive_both link.now end) }
-    ensures fault { IfErr result (λ fault. fault ≡ Memory) }
-{
-    let newest = link.newest;
-    listed(alloc, [receives(link, &newest, end)])
-}
-
-/// The commands that let an end send under the newest pair.
-fn start_sending(alloc: Global, link: &Link, end: End) -> Result<Vec<Command>, PlanFault>
-    ensures commands { IfOk result (λ commands. commands.items ≡ start_sending link.now end) }
-    ensures fault { IfErr result (λ fault. fault ≡ Memory) }
-{
-    let newest = link.newest;
-    let commands = [sends(&newest, end), Command::TxUse { an: newest.an }];
-    listed(alloc, commands)
-}
-
-/// The commands that remove the previous pair.
-fn remove_earlier(
-    alloc: Global,
-    link: &Link,
-    end: End,
-    earlier: &KeyPair,
-) -> Result<Vec<Command>, PlanFault>
-    ensures commands { IfOk result
-        (λ commands. commands.items ≡ remove_earlier link.now end earlier.now) }
-    ensures fault { IfErr result (λ fault. fault ≡ Memory) }
-{
-    let commands = [
-        Command::TxRemove { an: earlier.an },
-        Command::RxRemove {
-            sci: sci_of(link, other_end(end)),
-            an: earlier.an,
-        },
-    ];
-    listed(alloc, commands)
-}
-
 /// The previous pair.
 fn pair_before(link: &Link) -> Result<KeyPair, PlanFault>
     ensures { result ≡ pair_before link.now }
@@ -180,24 +122,35 @@ pub fn planned(
     ensures fault { IfErr result (λ fault. fault ≢ Memory
         → planned link.now end stage ≡ Err fault) }
 {
+    let newest = link.newest;
+    let sci = sci_of(link, other_end(end));
     match stage {
         Stage::First => {
-            let commands = first_keys(alloc, link, end)?;
+            let commands = [
+                sends(&newest, end),
+                Command::TxUse { an: newest.an },
+                Command::RxAdd { sci },
+                receives(link, &newest, end),
+            ];
+            let commands = listed(alloc, commands)?;
             Ok(commands)
         }
         Stage::Receive => {
             let _earlier = pair_before(link)?;
-            let commands = receive_both(alloc, link, end)?;
+            let commands = listed(alloc, [receives(link, &newest, end)])?;
             Ok(commands)
         }
         Stage::Send => {
             let _earlier = pair_before(link)?;
-            let commands = start_sending(alloc, link, end)?;
+            let commands = [sends(&newest, end), Command::TxUse { an: newest.an }];
+            let commands = listed(alloc, commands)?;
             Ok(commands)
         }
         Stage::Remove => {
             let earlier = pair_before(link)?;
-            let commands = remove_earlier(alloc, link, end, &earlier)?;
+            let an = earlier.an;
+            let commands = [Command::TxRemove { an }, Command::RxRemove { sci, an }];
+            let commands = listed(alloc, commands)?;
             Ok(commands)
         }
     }

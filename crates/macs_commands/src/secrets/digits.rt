@@ -101,10 +101,7 @@ pub fn key_of(text: &[u8]) -> Option<Key>
 pub fn sci_of(text: &[u8]) -> Option<Sci>
     ensures { result ≡ octets_of 8 text.now }
 {
-    match octets(text) {
-        Some(octets) => Some(Sci(octets)),
-        None => None,
-    }
+    Some(Sci(octets(text)?))
 }
 
 /// The lower-case digit of a value.
