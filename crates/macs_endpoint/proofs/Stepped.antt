@@ -11,8 +11,7 @@ use Rattle.macs_disk.proofs.Moments.{Leaves-weaker}
 use Rattle.macs_journal.specs.Areas.{least_sectors}
 use Rattle.macs_journal.specs.declared.fault.JournalFault.{JournalFault}
 use Rattle.macs_journal.specs.declared.fault.JournalFault.TheVariants as fault
-use Rattle.macs_journal.specs.declared.work.JournalStep.{JournalStep}
-use Rattle.macs_journal.specs.declared.work.JournalStep.TheVariants.{Finished, Going, Idle}
+use Rattle.macs_journal.specs.declared.work.JournalStep.TheVariants.{Finished, Going}
 use Rattle.macs_txsc.specs.Value as txsc
 use Rattle.macs_txsc.specs.declared.channel.Tx.{Tx}
 use Rattle.macs_rxsc.specs.Receive.{Numbers}
@@ -169,14 +168,6 @@ gone_on-call disk_of e kept running s steps work busy =
     (gone_on-kept e kept s steps.running held (steps.going refl) work) disk_of
     (subst (λ (n : ℕ). least_sectors ≤ n) (sym steps.work.works.sectors) backed.size)
     (steps.stored honest (backed.stored running)))
-
--- what a step of work under way answers that is not done
-pub still_going : {D : Type 0} (disk_of : D → disk.Disk) (old : store.StoreValue D) (busy : ¬ IsIdle old)
-    (at : JournalStep) (new : store.StoreValue D)
-    → (¬ (at ≡ Finished)) → Steps disk_of old (Ok at) new → at ≡ Going
-still_going disk_of old busy Going new other steps = refl
-still_going disk_of old busy Idle new other steps = absurd (busy (steps.idle.0 refl).1)
-still_going disk_of old busy Finished new other steps = absurd (other refl)
 
 -- a step of work under way fails as Disk
 pub step_fault : {D : Type 0} (disk_of : D → disk.Disk) (old new : store.StoreValue D) (at : JournalFault)
