@@ -390,7 +390,7 @@ last_steps = (
 abbrev AreInRange : List Exchange → Type 0
 AreInRange exchanges = AllByRecursion (λ (e : Exchange). IsInRange e.call) exchanges
 
-plain_range : All (λ octet. octet < 2 ^ 8) example_plain
+pub plain_range : All (λ octet. octet < 2 ^ 8) example_plain
 plain_range = All-replicate (λ octet. octet < 2 ^ 8) 14 0 (omega arith)
 
 -- calls in their ranges, and then more
@@ -398,10 +398,10 @@ pub range_on : (xs ys : List Exchange) → AreInRange xs → AreInRange ys → A
 range_on [] ys one two = two
 range_on (x ∷ xs) ys one two = (one.0, range_on xs ys one.1 two)
 
-install_own_range : (an : ℕ) → IsAn an → IsInRange (Commands (TxInstall an (Short own_key) 1 true 0))
+pub install_own_range : (an : ℕ) → IsAn an → IsInRange (Commands (TxInstall an (Short own_key) 1 true 0))
 install_own_range an range = (range, inl (key-range 1 (omega arith)), omega arith, omega arith)
 
-install_peer_range : (an : ℕ) → IsAn an → IsInRange (Commands (RxInstall peer_sci an (Long peer_key) 1 0))
+pub install_peer_range : (an : ℕ) → IsAn an → IsInRange (Commands (RxInstall peer_sci an (Long peer_key) 1 0))
 install_peer_range an range = (peer-range, range, inr (long-key-range 2 (omega arith)), omega arith, omega arith)
 
 own_range : AreInRange (part 0 4)

@@ -44,9 +44,9 @@ use Rattle.macs_endpoint.specs.State.{Commands, RefusedLong, State, rx_side, sta
 use Rattle.macs_endpoint.specs.Step.{Exchange, Step, Steps, state_after_command, state_after_delivery}
 use Rattle.macs_endpoint.specs.Step.{state_after_frame, state_after_hold}
 use Rattle.macs_headline.specs.Binding.{HasHistory}
-use Rattle.macs_headline.specs.Example.{add_peer, example_identity, example_plain, example_sectors, install_own}
-use Rattle.macs_headline.specs.Example.{install_own_again, install_peer, install_peer_again, own_key, own_sa}
-use Rattle.macs_headline.specs.Example.{peer_frame, peer_key, peer_sa, peer_sci, stay_strict, use_own}
+use Rattle.macs_headline.specs.Example.{add_peer, example_identity, example_sectors, install_own, install_own_again}
+use Rattle.macs_headline.specs.Example.{install_peer, install_peer_again, own_key, own_sa, peer_frame, peer_key}
+use Rattle.macs_headline.specs.Example.{peer_sa, peer_sci, stay_strict, use_own}
 use Rattle.macs_headline.specs.ExampleCuts.{body_writes, place_behind, state_after_writes}
 use Rattle.macs_headline.specs.ExampleLives.{obeyed}
 use Rattle.macs_headline.specs.ExampleMigration.{IsOldDisk, IsWorkedMigration, again_content, again_exchanges}
@@ -69,7 +69,8 @@ use Rattle.macs_headline.proofs.Chains.{settled-disks}
 use Rattle.macs_headline.proofs.ExampleCuts.{head-sector, record_sector, torn_kept, torn_whole}
 use Rattle.macs_headline.proofs.ExampleFits.{away, rx_all, tx_second}
 use Rattle.macs_headline.proofs.ExampleFrames.{arrival, peer-arrives}
-use Rattle.macs_headline.proofs.ExampleHistory.{range_on, refused_by, same_steps, steps_on}
+use Rattle.macs_headline.proofs.ExampleHistory.{install_own_range, install_peer_range, plain_range, range_on}
+use Rattle.macs_headline.proofs.ExampleHistory.{refused_by, same_steps, steps_on}
 use Rattle.macs_headline.proofs.ExampleImages.{both_at, both_some, default_config, next_config}
 use Rattle.macs_headline.proofs.ExampleRecords.{example-head, key-range, long-key-range, peer-range, print_range}
 use Rattle.macs_headline.proofs.ExampleRecords.{snapshot-ranges}
@@ -406,9 +407,6 @@ old_end = state_after_frame r2 (outgoing 1)
 long_range : IsOctets 32 (replicate 32 7)
 long_range = record { size = refl; each = All-replicate (λ octet. octet < 2 ^ 8) 32 7 (omega arith) }
 
-plain_range : All (λ octet. octet < 2 ^ 8) example_plain
-plain_range = All-replicate (λ octet. octet < 2 ^ 8) 14 0 (omega arith)
-
 refused_long : Step made (Commands install_long) RefusedLong made
 refused_long = inr (refl, (refl, refl, refl))
 
@@ -439,7 +437,7 @@ old_life sectors large = record {
   is_found = (large, record { content = old_content; found = old_found; stands = old_meaning first_edition });
   in_range = (
     (omega arith, inr long_range, omega arith, omega arith),
-    ((omega arith, inl (key-range 1 (omega arith)), omega arith, omega arith), (omega arith, (plain_range, tt))),
+    (install_own_range 0 (omega arith), (omega arith, (plain_range, tt))),
   );
   steps = old_steps;
 }
@@ -695,22 +693,7 @@ module _ (peer : All (λ octet. octet < 2 ^ 8) (peer_frame 5)) where
     is_found = begun_is;
     in_range = (
       tt,
-      (
-        plain_range,
-        (
-          peer-range,
-          (
-            (
-              peer-range,
-              omega arith,
-              inr (long-key-range 2 (omega arith)),
-              omega arith,
-              omega arith,
-            ),
-            (peer, (tt, (peer, tt))),
-          ),
-        ),
-      ),
+      (plain_range, (peer-range, (install_peer_range 0 (omega arith), (peer, (tt, (peer, tt)))))),
     );
     steps = long_steps;
   }
@@ -720,13 +703,8 @@ module _ (peer : All (λ octet. octet < 2 ^ 8) (peer_frame 5)) where
     fits = fits_long;
     found = long_standing;
     is_found = long_is;
-    in_range = range_on front_exchanges (replicate 248 (obeyed stay_strict)) (
-      (omega arith, inl (key-range 1 (omega arith)), omega arith, omega arith),
-      (
-        (peer-range, omega arith, inr (long-key-range 2 (omega arith)), omega arith, omega arith),
-        (tt, (plain_range, tt)),
-      ),
-    )
+    in_range = range_on front_exchanges (replicate 248 (obeyed stay_strict))
+        (install_own_range 1 (omega arith), (install_peer_range 1 (omega arith), (tt, (plain_range, tt))))
         (each-same (λ (e : Exchange). IsInRange e.call) 248 (obeyed stay_strict) tt);
     steps = spent_steps;
   }

@@ -19,7 +19,7 @@ use Rattle.macs_rxsc.specs.declared.verdict.Kind.TheVariants.{Ok as AsOk, Delaye
 use Rattle.macs_store.specs.Standing.{Standing}
 use Rattle.macs_endpoint.specs.State.{Delivery, Logs, State}
 use Rattle.macs_endpoint.specs.Step.{Exchange, Steps, next_after, numbers_after}
-use Rattle.macs_endpoint.specs.Restart.{Restart, RxRises, TxRises, opened_state, rx_limit}
+use Rattle.macs_endpoint.specs.Restart.{Restart, Resumes, RxRises, TxRises, opened_state, rx_limit}
 use Rattle.macs_headline.specs.History.{Blank, Formatted, Past, logs_of}
 use Rattle.macs_headline.specs.Moments.{IsFoundAfter, WasGiven, WasUsed}
 use Rattle.macs_headline.specs.Numbers.{BeginAsAsked, GivenApart, GivenBelow, HasNoneTwice, IsBeyondRx, IsBeyondTx}
@@ -183,13 +183,20 @@ skipped block next found (later, is_later, low, high, most) =
     subst (λ (o : Option ℕ). IsSomeAnd o (λ later. IsSkipped block next later × (later ≤ 2 ^ 32))) (sym is_later)
     ((low, high), most)
 
+-- and of a state that resumes one with that next number
+found_of : (s mid new : State) (an next : ℕ) → mid.identity ≡ s.identity → mid.next an ≡ Some next → Resumes mid new
+    → IsSomeAnd (new.next an) (λ later. IsSkipped s.identity.tx_block next later × (later ≤ 2 ^ 32))
+found_of s mid new an next same is up =
+    skipped s.identity.tx_block next (new.next an)
+    (subst (λ (i : Identity). TxRises i.tx_block (Some next) (new.next an)) same
+    (subst (λ (o : Option ℕ). TxRises mid.identity.tx_block o (new.next an)) is (up.next an)))
+
 skips : (s new : State) (an : ℕ) (before after : TxSa) (next : ℕ) → Restart s new → s.config.tx an ≡ Some before
     → new.config.tx an ≡ Some after
     → s.next an ≡ Some next
     → IsSomeAnd (new.next an) (λ later. IsSkipped s.identity.tx_block next later × (later ≤ 2 ^ 32))
 skips s new an before after next (inl up) is js is_next =
-    skipped s.identity.tx_block next (new.next an)
-    (subst (λ (o : Option ℕ). TxRises s.identity.tx_block o (new.next an)) is_next (up.next an))
+    found_of s s new an next refl is_next up
 skips s new an before after next (inr (c, mid, hand, makes, up)) is js is_next =
     let a = accepted s.edition s.identity s.config c makes.0 makes.1 in
     let config : new.config ≡ config_after s.config c = up.config ∙ ap (λ (s : State). s.config) makes.2 ∙ a.1 in
@@ -197,11 +204,7 @@ skips s new an before after next (inr (c, mid, hand, makes, up)) is js is_next =
     let mid_next : mid.next an ≡ Some next =
     ap (λ (s : State). s.next an) makes.2
     ∙ next_stays s.edition s.identity s.config c s.next an before after a.0 is there ∙ is_next in
-    let block : mid.identity ≡ s.identity = ap (λ (s : State). s.identity) makes.2 in
-    let rises : TxRises s.identity.tx_block (Some next) (new.next an) =
-    subst (λ (i : Identity). TxRises i.tx_block (Some next) (new.next an)) block
-    (subst (λ (o : Option ℕ). TxRises mid.identity.tx_block o (new.next an)) mid_next (up.next an)) in
-    skipped s.identity.tx_block next (new.next an) rises
+    found_of s mid new an next (ap (λ (s : State). s.identity) makes.2) mid_next up
 
 -- the numbers of a receive association that stays, over the command under way: a new window moves the lowest alone
 numbers_stay : (edition : Edition) (identity : Identity) (old : Config) (c : Command) (numbers : List ℕ → ℕ
@@ -312,11 +315,7 @@ begins_tx s new an key start confidential offset (inr (c, mid, hand, makes, up))
     let mid_next : mid.next an ≡ Some start =
     ap (λ (s : State). s.next an) makes.2 ∙ ap (λ (c : Command). next_after c s.next an) one
     ∙ put-this s.next an an (Some start) refl in
-    let block : mid.identity ≡ s.identity = ap (λ (s : State). s.identity) makes.2 in
-    let rises : TxRises s.identity.tx_block (Some start) (new.next an) =
-    subst (λ (i : Identity). TxRises i.tx_block (Some start) (new.next an)) block
-    (subst (λ (o : Option ℕ). TxRises mid.identity.tx_block o (new.next an)) mid_next (up.next an)) in
-    skipped s.identity.tx_block start (new.next an) rises
+    found_of s mid new an start (ap (λ (s : State). s.identity) makes.2) mid_next up
 
 -- nothing was seen on an association that is new, so that its numbers do not move
 first_stay : (block start : ℕ) (found : Option Numbers) → RxRises block (Some (first_numbers start)) found

@@ -87,14 +87,6 @@ filled_more P d xs i v within held is k h = elim (cases_lt k i) [
       rw same (rw (get_or-set_same xs i v d within) is)
 ]
 
-pub fact_more : (P : ℕ → Type 0) (i : ℕ) → ((k : ℕ) → k < i → P k) → P i → (k : ℕ) → k < i + 1 → P k
-fact_more P i held is k h = elim (cases_lt k i) [
-  | inl lt ↦ held k lt
-  | inr ge ↦
-      let same : k ≡ i = omega arith in
-      rw same is
-]
-
 -- an element that is there, whatever stands for one that is not
 pub any_default : {A : Type 0} (xs : List A) (i : ℕ) (d e : A) → i < length xs → get_or xs i d ≡ get_or xs i e
 any_default [] i d e h = absurd (omega arith)

@@ -2,24 +2,12 @@ use Rattle.std.proofs.Common.{◌≡◌, ◌+◌, ◌-◌, ◌%◌, ◌≤◌, �
 use Rattle.macs_aes.specs.Cipher.{mix_columns, round_key, sub_bytes}
 use Rattle.macs_aes.specs.KeyExpansion.{key_words}
 use Rattle.macs_planes.specs.Across.{IsKeyPlanes, turned, turned_back}
-use Rattle.macs_aes.specs.Blocks.{ArePlanes}
 use Rattle.macs_aes.specs.RoundKeys.{keyed}
 use Rattle.macs_planes.proofs.Octets.{any_default}
 use Rattle.macs_aes.proofs.CipherRounds.{rounds_first, rounds_last, rounds_next}
 use Rattle.macs_planes.proofs.Turned.{all_keyed, back_first, back_turned, next_turns, none_turned, two_left}
 use Rattle.macs_planes.specs.declared.places.TheConstants.{LANES}
 use Rattle.macs_planes.proofs.group.encrypt_across.Goals as goal
-
-pub add_round_key-requires : goal.add_round_key-requires
-add_round_key-requires c = subst (ArePlanes LANES)
-    (any_default c.args.keys.now 0 [] c.index-keys-0.result (omega arith)) (c.requires.each 0 (omega arith)).are
-
-pub take_round-requires : goal.take_round-requires
-take_round-requires c =
-    let r : ℕ = c.loop-round.round in
-    let few = c.rounds-rounds.ensures.ten_or_fourteen in
-    subst (ArePlanes LANES) (any_default c.args.keys.now r [] c.index-keys-round.result (omega (arith, few)))
-    (c.requires.each r (omega (arith, c.rounds-rounds.ensures.rounds))).are
 
 pub loop-round-init : goal.loop-round-init
 loop-round-init c =
@@ -66,8 +54,3 @@ loop-round-preserved c =
           ∙ all_keyed 2 k (map sub_bytes old)
           ∙ ap (keyed (turned 2 k)) (ap (λ (t : ℕ). map (turned t) (map sub_bytes old)) two ∙ next_turns r old low));
     }
-
-pub returns : goal.returns
-returns c =
-    let left = two_left c.rounds-rounds.result c.rounds-rounds.ensures.ten_or_fourteen in
-    c.shift_rows_twice.ensures ∙ c.loop-round.invariant.done (omega (arith, left.1))

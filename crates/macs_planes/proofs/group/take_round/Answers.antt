@@ -15,9 +15,3 @@ returns-clause-inner c = λ k is more. elim c.if-round-rounds.branch [
       ∙ ap (λ b. map mix_columns (map (turned t) b)) c.sub_bytes.ensures)
   | else-round-rounds w ↦ absurd (omega (arith, more, w.if-round-rounds))
 ]
-
-pub returns-clause-last : goal.returns-clause-last
-returns-clause-last c = λ k is last. elim c.if-round-rounds.branch [
-  | then-round-rounds w ↦ absurd (omega (arith, last, w.if-round-rounds))
-  | else-round-rounds w ↦ c.add_round_key.ensures k is ∙ ap (keyed k) (w.blocks-is ∙ c.sub_bytes.ensures)
-]

@@ -5,21 +5,6 @@ use Rattle.macs_planes.proofs.AcrossLanes.{bit_within, lane_within, same_elsewhe
 use Rattle.macs_planes.specs.declared.places.TheConstants.{LANES}
 use Rattle.macs_planes.proofs.places.moved_each.Goals as goal
 
-pub invariant_of-result : goal.invariant_of-result
-invariant_of-result c = (
-  c.moved.ensures.lanes,
-  (
-    c.moved-2.ensures.lanes,
-    (
-      c.moved-3.ensures.lanes,
-      (
-        c.moved-4.ensures.lanes,
-        (c.moved-5.ensures.lanes, (c.moved-6.ensures.lanes, (c.moved-7.ensures.lanes, (c.moved-8.ensures.lanes, tt)))),
-      ),
-    ),
-  ),
-)
-
 pub returns : goal.returns
 returns c = λ m n h k.
     let x = c.x.inside in
