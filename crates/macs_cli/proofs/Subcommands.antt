@@ -13,8 +13,7 @@ use Rattle.std.proofs.lemmas.Slice.Eq.{bytes_eq-Decides}
 use Rattle.std.specs.Str.Parse.{digits_value, without_leading_plus}
 use Rattle.clap.specs.Built.{AddsSubcommand}
 use Rattle.clap.specs.Facts.{parser_of_value}
-use Rattle.clap.specs.Simple.{Shape, app_of_fields, argument_words, built, entered, filled, label_of, names_of, on_top}
-use Rattle.clap.specs.Simple.{rows_at, with_index}
+use Rattle.clap.specs.Simple.{Shape, argument_words, built, entered, filled, label_of, names_of, rows_at, with_index}
 use Rattle.clap.specs.Takes.{entered_passes, level_passes, takes}
 use Rattle.clap.specs.Values.{IsUnsignedIn}
 use Rattle.clap.specs.ValueTests.{accepts}
@@ -22,8 +21,6 @@ use Rattle.clap.specs.Walk.{answers_to, arg_by_id, first_of, nothing_held, rows_
 use Rattle.clap.specs.Words.{App, Row, Rule, Text, app_of, fault_of, is_simple, is_simple_and_free, kind_of, new_app}
 use Rattle.clap.specs.Words.{subcommand_of, with_subcommand}
 use Rattle.clap.specs.declared.builder.command.Command.{Command}
-use Rattle.clap.specs.declared.builder.command.Command.TheOpen.{Command-F}
-use Rattle.clap.specs.declared.builder.command.Command.TheViews.{out-Command as fields_of}
 use Rattle.clap.specs.declared.builder.value_parser.ValueParser.{ValueParser}
 use Rattle.clap.specs.declared.builder.value_parser.ValueParser.TheVariants as vp
 use Rattle.clap.specs.declared.error.Error.{Error}
@@ -39,7 +36,6 @@ use Rattle.macs_cli.specs.declared.words.action.DiskAction.{DiskAction}
 use Rattle.macs_cli.specs.declared.words.action.DiskAction.TheVariants.{Format, Apply, Show}
 use Rattle.macs_cli.specs.declared.words.action.FrameAction.{FrameAction}
 use Rattle.macs_cli.specs.declared.words.action.FrameAction.TheVariants.{Protect, Validate, Relay}
-use Rattle.macs_cli.specs.declared.words.action.ToolAction.{ToolAction}
 use Rattle.macs_cli.specs.declared.words.action.ToolAction.TheVariants.{Ask, Key, Inspect, Check, Plan, Examine, About}
 use Rattle.macs_cli.specs.declared.words.action.Question.{Question}
 use Rattle.macs_cli.specs.declared.words.pace.Pace.{Pace}
@@ -50,7 +46,7 @@ use Rattle.macs_cli.specs.declared.words.action.UsageFault.{UsageFault}
 use Rattle.macs_cli.specs.declared.words.action.UsageFault.TheVariants.{Usage, Memory}
 use Rattle.macs_cli.specs.Words.{FitsNumbers, FitsOnDisk, FitsOnFrames, FitsPace, HasNumber, HasPace, HasPlan}
 use Rattle.macs_cli.specs.Words.{HasQuestion, IsClapCommand, IsFaultOf, IsFlagged, MayHaveRoom, Names, NamesNothing}
-use Rattle.macs_cli.specs.Words.{NamesOnDisk, NamesOnFrames, NamesTool, bare_app, end_named, is_report, macsecd}
+use Rattle.macs_cli.specs.Words.{NamesOnDisk, NamesOnFrames, end_named, is_report, macsecd}
 use Rattle.macs_cli.specs.Words.{rule_for, stage_named, with_arguments, with_subcommands}
 use Rattle.macs_cli.specs.declared.words.arguments.Kind.{Kind}
 use Rattle.macs_cli.specs.declared.words.arguments.Kind.TheVariants as kind
@@ -59,22 +55,6 @@ use Rattle.macs_cli.proofs.Questions.{asks, same-report, text_of}
 use Rattle.macs_cli.proofs.Taken.{is_bare_app, taken as taken_where_faultless}
 
 -- ---- the words as they are built
-
-pub bare_words : (a b d e f : Command) → app_of a ≡ new_app (codes "macsecd")
-    → fields_of b ≡ record (fields_of a) { no_binary_name = true }
-    → fields_of d ≡ record (fields_of b) { disable_help_flag = true }
-    → fields_of e ≡ record (fields_of d) { disable_help_subcommand = true }
-    → fields_of f ≡ record (fields_of e) { disable_version_flag = true } → app_of f ≡ bare_app
-bare_words a b d e f is one two three four =
-    ap app_of_fields (four ∙ ap (λ (x : Command-F Command). record x { disable_version_flag = true })
-    (three ∙ ap (λ (x : Command-F Command). record x { disable_help_subcommand = true })
-    (two ∙ ap (λ (x : Command-F Command). record x { disable_help_flag = true }) one)))
-    ∙ ap (on_top (λ s. record s {
-      no_binary_name = true;
-      disable_help_flag = true;
-      disable_help_subcommand = true;
-      disable_version_flag = true;
-    })) is
 
 -- one subcommand more
 pub one-more : (old sub new : Command) (subcommands : List (Bor Text × Bor (List (Bor Text × Kind)))) (i : ℕ)
@@ -117,32 +97,7 @@ relay_of rows (Validate disk input output is_all is_each) named fits =
     absurd (omega (arith, ap (λ (t : Text). slice_index t 0) named.0))
 relay_of rows (Relay disk controlled common running) named fits = (disk, controlled, common, running, named, fits)
 
--- ---- what `ask` is given
-
--- its question is there, and whether JSON is wanted of a report
-pub question_of : (rows : List Row) (action : ToolAction) → NamesTool (codes "ask", rows) action
-    → (asked : Question) × HasQuestion rows asked × (is_json : Bool) × IsFlagged rows (codes "json") is_json
-    × (is_json ≡ true → is_report asked ≡ true)
-question_of rows (Ask path asked is_json) named = (asked, named.2, is_json, named.3, named.4)
-question_of rows (Key is_long) named = absurd (omega (arith, ap (λ (t : Text). slice_index t 0) named.0))
-question_of rows (Inspect input) named = absurd (omega (arith, ap (λ (t : Text). slice_index t 0) named.0))
-question_of rows (Check file disk) named = absurd (omega (arith, ap (λ (t : Text). slice_index t 0) named.0))
-question_of rows (Plan file end stage) named = absurd (omega (arith, ap (λ (t : Text). slice_index t 0) named.0))
-question_of rows (Examine disk is_json) named = absurd (omega (arith, ap (λ (t : Text). slice_index t 0) named.0))
-question_of rows About named = absurd (omega (arith, ap (λ (t : Text). slice_index t 1) named))
-
 -- ---- what `plan` is given
-
--- its end and its stage are there
-pub plan_of : (rows : List Row) (action : ToolAction) → NamesTool (codes "plan", rows) action
-    → (end : End) × (which : Stage) × HasPlan rows end which
-plan_of rows (Ask path asked is_json) named = absurd (omega (arith, ap (λ (t : Text). slice_index t 0) named.0))
-plan_of rows (Key is_long) named = absurd (omega (arith, ap (λ (t : Text). slice_index t 0) named.0))
-plan_of rows (Inspect input) named = absurd (omega (arith, ap (λ (t : Text). slice_index t 0) named.0))
-plan_of rows (Check file disk) named = absurd (omega (arith, ap (λ (t : Text). slice_index t 0) named.0))
-plan_of rows (Plan file end which) named = (end, which, named.2)
-plan_of rows (Examine disk is_json) named = absurd (omega (arith, ap (λ (t : Text). slice_index t 0) named.0))
-plan_of rows About named = absurd (omega (arith, ap (λ (t : Text). slice_index t 0) named))
 
 -- whether its words name both
 plans : (rows : List Row)
