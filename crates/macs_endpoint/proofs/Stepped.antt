@@ -95,7 +95,7 @@ module _ {D : Type 0} (disk_of : D → disk.Disk) (e : EndpointValue D) (running
         };
       }
 
--- ---- it goes on
+-- ---- it continues
 
 -- what is in memory
 module _ {D : Type 0} (e : EndpointValue D) (kept : IsSoundEndpoint e) (s : store.StoreValue D)

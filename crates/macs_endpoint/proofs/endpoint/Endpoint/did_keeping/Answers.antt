@@ -43,7 +43,7 @@ module _ (g : Over) (c : After-did_call g) where
       subst (λ (r : Result JournalStep JournalFault). store.Did g.D.SectorDisk.disk c.self.inside.store c.args.read.now
       c.args.answer r c.did_call.new.self) is c.did_call.ensures
 
-  -- it goes on
+  -- it continues
   going : (at : JournalStep) → c.did_call.result ≡ Ok at → (¬ (at ≡ Finished)) → c.did_call.result ≡ Ok Going
   going at is other = is ∙ ap Ok (goes-on at other (did (Ok at) is).busy)
 
