@@ -13,7 +13,7 @@ use Rattle.macs_journal.specs.Appending.{IsReady}
 use Rattle.macs_journal.specs.Areas.{gates, head_body, other_area, slot_body, slots}
 use Rattle.macs_journal.specs.Compacting.{HasOpenGates, compacted, next_head}
 use Rattle.macs_journal.specs.Found.{Content, HasJournal, IsGateOpen}
-use Rattle.macs_journal.specs.Rewriting.{IsNoBody, IsSettled}
+use Rattle.macs_journal.specs.NewArea.{IsNoBody, IsSettled}
 use Rattle.macs_journal.specs.Stages.{AreBodiesWritten, IsBodyOf, IsCleared}
 use Rattle.macs_journal.specs.Value.{IsCompacting}
 use Rattle.macs_journal.specs.Work.{IsSpared}
