@@ -22,11 +22,15 @@ impl Connection for Line<'_> {
         let octets = self.coming.as_bytes();
         let count = octets.len().min(into.len());
         if count == 0 {
-            return if self.is_over { Taken::Ended } else { Taken::Nothing };
+            return if self.is_over {
+                Taken::Ended
+            } else {
+                Taken::Nothing
+            };
         }
         into[..count].copy_from_slice(&octets[..count]);
         self.coming = self.coming.get(count..).unwrap_or("");
-        Taken::Octets(count)
+        Taken::Octets(count.min(into.len()))
     }
 
     fn try_send(&mut self, octets: &[u8]) -> bool {
