@@ -1,7 +1,8 @@
 -- A capture record that was written is read.
-use Rattle.std.proofs.Common.{◌≡◌, ◌∙◌, ◌<◌, ◌≤◌, ◌^◌, ℕ, suc, ◌+◌, Bool, List, [], ◌∷◌, ◌++◌, length, take, refl, sym}
-use Rattle.std.proofs.Common.{ap, arith, subst, append-nil, append_assoc, length-append}
+use Rattle.std.proofs.Common.{◌≡◌, ◌∙◌, ◌<◌, ◌≤◌, ◌^◌, ℕ, ◌+◌, Bool, List, [], ◌∷◌, ◌++◌, length, take, refl, sym, ap}
+use Rattle.std.proofs.Common.{arith, subst, append-nil, append_assoc, length-append}
 use Rattle.std.specs.Prelude.{All, None}
+use Rattle.std.proofs.lemmas.List.Elements.{All-tail}
 use Rattle.macs_pcap.proofs.Fronts.{front, length-front}
 use Rattle.macs_pcap.proofs.Taken.{sound-none}
 use Rattle.macs_pcap.proofs.WrittenNumbers.{Stands, behind-number, length-octets_of, number-stands}
@@ -114,9 +115,6 @@ begins-none big count left rest taken begins few =
     let behind = length-append taken.frame rest in
     sound-none big count left begins.header few (omega (arith, all, behind, begins.kept))
 
-all-behind : {X : Type 0} (P : X → Type 0) (x : X) (xs : List X) → All P (x ∷ xs) → All P xs
-all-behind P x xs all = λ k d within. all (suc k) d (omega (arith, within))
-
 pub records-read : (big : Bool) (records : List CaptureRecord) (rest : List ℕ) → All IsCaptureRecord records
     → BeginsWithRecords big (records_text big records ++ rest) records rest
 records-read big [] rest fits = refl
@@ -128,5 +126,5 @@ records-read big (taken ∷ more) rest fits =
     let first = record-read big taken behind (fits 0 taken (omega arith)) in (
       behind,
       subst (λ (l : List ℕ). BeginsWithRecord big l taken behind) (sym split) first,
-      records-read big more rest (all-behind IsCaptureRecord taken more fits),
+      records-read big more rest (All-tail IsCaptureRecord taken more fits),
     )

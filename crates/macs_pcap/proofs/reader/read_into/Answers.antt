@@ -1,6 +1,6 @@
 use Rattle.std.proofs.Common.{◌∙◌, Err, ap}
 use Rattle.std.proofs.lemmas.Result.{err_from_is_err_and}
-use Rattle.macs_pcap.proofs.Taken.{frame-unread, record-sound}
+use Rattle.macs_pcap.proofs.Taken.{frame-unread}
 use Rattle.macs_pcap.proofs.reader.read_into.Goals as goal
 
 pub returns-in_err-read_frame-clause-unread : goal.returns-in_err-read_frame-clause-unread
@@ -14,10 +14,3 @@ returns-in_err-read_frame-clause-unread g c =
     c.in-Some.is
     c.in_ok-header.ensures.taken frame.ensures.names (λ memory. ap g.R.Source.state (frame.ensures.memory memory).1)
     (risen.1 ∙ ap Err risen.2)
-
-pub returns-clause-fault : goal.returns-clause-fault
-returns-clause-fault g c =
-    record-sound (g.R.Source.state c.args.source.now) (g.R.Source.state c.read_record_header.new.source)
-    (g.R.Source.state c.read_frame.new.source) _ _ _ _ _ _ c.in-Some.is
-    c.in_ok-header.ensures.taken c.in_ok-header.ensures.few c.in_ok-read_frame.ensures.taken
-    c.in_ok-read_frame.ensures.kept
