@@ -1,5 +1,6 @@
 -- The S-box of an octet by the tower.
-use Rattle.std.proofs.Common.{◌≡◌, ℕ, ◌^◌, ◌<◌, ◌%◌, List, map, get_or, length, refl, ap, sym, ◌∙◌, true, arith, bit_xor}
+use Rattle.std.proofs.Common.{◌≡◌, ℕ, ◌^◌, ◌<◌, ◌%◌, List, map, get_or, length, refl, ap, sym, ◌∙◌, true, arith}
+use Rattle.std.proofs.Common.{bit_xor}
 use Rattle.std.specs.List.{range_with_len}
 use Rattle.std.proofs.lemmas.List.FromFn.{get_or-map-range_with_len}
 use Rattle.macs_gf.specs.Gf256.{octet_product}

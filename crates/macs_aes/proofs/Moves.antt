@@ -183,7 +183,8 @@ is_same (At n j) (At m k) = nat_eq n m && nat_eq j k
 
 is_same-true : (p q : Place) → is_same p q ≡ true → p ≡ q
 unfolding is_same
-is_same-true (At n j) (At m k) e = ap₂ (λ (a b : ℕ). At a b) (eqb-true n m (and_parts _ _ e).0) (eqb-true j k (and_parts _ _ e).1)
+is_same-true (At n j) (At m k) e =
+    ap₂ (λ (a b : ℕ). At a b) (eqb-true n m (and_parts _ _ e).0) (eqb-true j k (and_parts _ _ e).1)
 
 -- one more place, or one less where it is among them
 unfoldable pub toggled : Place → List Place → List Place

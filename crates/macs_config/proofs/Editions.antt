@@ -1,6 +1,7 @@
 -- Whatever the smaller edition takes the larger takes too.
 use Rattle.std.proofs.Common.{◌≡◌, ◌∙◌, ℕ, Bool, true, false, cond, not, ◌&&◌, ◌||◌, ◌==◌, nat_le, nat_lt, List, []}
-use Rattle.std.proofs.Common.{◌∷◌, ◌++◌, length, Option, Some, None, is_none, Ok, bytes_eq, map, inl, inr, refl, ap, arith}
+use Rattle.std.proofs.Common.{◌∷◌, ◌++◌, length, Option, Some, None, is_none, Ok, bytes_eq, map, inl, inr, refl, ap}
+use Rattle.std.proofs.Common.{arith}
 use Rattle.std.proofs.lemmas.Bool.{and_from, and_parts, leb-false, lt-leb, lt-ltb, ltb-true, not-false, or_right}
 use Rattle.macs_aes.specs.Keys.{octets_of_key}
 use Rattle.macs_fields.specs.First.{first}

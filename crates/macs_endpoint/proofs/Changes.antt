@@ -300,10 +300,13 @@ pub made-accepted : (s : State) (f g : Standing) (reserving : Option Raise) (cal
     → CeilingsAfter s f reserving call reply g
     → IsAcceptedTo (command_made s call reply) g
 made-accepted s f g reserving Rests reply stands = tt
-made-accepted s f g reserving (Commands command) reply stands = by_keeping s f g reserving (Commands command) reply stands tt
+made-accepted s f g reserving (Commands command) reply stands =
+    by_keeping s f g reserving (Commands command) reply stands tt
 made-accepted s f g reserving Refills reply stands = by_keeping s f g reserving Refills reply stands tt
-made-accepted s f g reserving (Submits command) reply stands = by_keeping s f g reserving (Submits command) reply stands tt
+made-accepted s f g reserving (Submits command) reply stands =
+    by_keeping s f g reserving (Submits command) reply stands tt
 made-accepted s f g reserving Advances reply stands = by_keeping s f g reserving Advances reply stands tt
-made-accepted s f g reserving (Protects plain) reply stands = by_keeping s f g reserving (Protects plain) reply stands tt
-made-accepted s f g reserving (Receives frame) reply stands = by_keeping s f g reserving (Receives frame) reply stands tt
-
+made-accepted s f g reserving (Protects plain) reply stands =
+    by_keeping s f g reserving (Protects plain) reply stands tt
+made-accepted s f g reserving (Receives frame) reply stands =
+    by_keeping s f g reserving (Receives frame) reply stands tt

@@ -68,7 +68,8 @@ module _ {D : Type 0} (disk_of : D → Disk) where
     rest_step logs (Err rest.GenerationsSpent) step = (none, step)
     rest_step logs (Err rest.Disk) step = (none, step)
 
-    turn_by : (result : Result (Unit {0}) RestFault) → ReserveStep (state_of old no_logs) (as_refill result) (state_of new no_logs)
+    turn_by : (result : Result (Unit {0}) RestFault)
+        → ReserveStep (state_of old no_logs) (as_refill result) (state_of new no_logs)
         → turn_after_refill old.turn old.reserving ≡ turn_after old Rests (Rested result)
     turn_by (Ok done) step = refl
     turn_by (Err rest.GenerationsSpent) step = refl
@@ -85,7 +86,8 @@ module _ {D : Type 0} (disk_of : D → Disk) where
     limited_by (Err rest.GenerationsSpent) spent = spent refl
     limited_by (Err rest.Disk) spent = tt
 
-    still_by : (result : Result (Unit {0}) RestFault) → ReserveStep (state_of old no_logs) (as_refill result) (state_of new no_logs)
+    still_by : (result : Result (Unit {0}) RestFault)
+        → ReserveStep (state_of old no_logs) (as_refill result) (state_of new no_logs)
         → (IsErrOf result rest.GenerationsSpent → IsIdle old.store → new.store ≡ old.store)
         → IsStill old Rests (Rested result) turned
     still_by (Ok done) step still = tt

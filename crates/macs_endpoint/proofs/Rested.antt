@@ -1,5 +1,6 @@
 -- What a rest makes of an endpoint: its ceilings are its next packet numbers, or it is refused.
-use Rattle.std.proofs.Common.{◌≡◌, ◌⊎◌, ◌≤◌, ◌∙◌, inl, inr, ℕ, Bool, true, false, List, [], Option, Some, None, is_some, Result}
+use Rattle.std.proofs.Common.{◌≡◌, ◌⊎◌, ◌≤◌, ◌∙◌, inl, inr, ℕ, Bool, true, false, List, [], Option, Some, None, is_some}
+use Rattle.std.proofs.Common.{Result}
 use Rattle.std.proofs.Common.{Ok, Err, IsErrOf, refl, sym, ap, subst, arith}
 use Rattle.std.specs.Option.{option_map}
 use Rattle.macs_config.specs.Config.{this_edition}
@@ -102,8 +103,10 @@ module _ {D : Type 0} (e : EndpointValue D) (kept : IsSoundEndpoint e) where
   ahead =
       let are = kept-ahead e kept in
       record {
-        tx_ahead = λ an. tx_at now.identity.tx_block ((txsc.tx_side_of e.tx).next an) (now.ceilings.tx an) (are.tx_ahead an);
-        rx_ahead = λ sci an. rx_at now.identity.rx_block ((rxsc.rx_side_of e.rx).numbers sci an) (now.ceilings.rx sci an)
+        tx_ahead =
+            λ an. tx_at now.identity.tx_block ((txsc.tx_side_of e.tx).next an) (now.ceilings.tx an) (are.tx_ahead an);
+        rx_ahead =
+            λ sci an. rx_at now.identity.rx_block ((rxsc.rx_side_of e.rx).numbers sci an) (now.ceilings.rx sci an)
             (are.rx_ahead sci an);
         few = are.few;
       }
@@ -169,7 +172,8 @@ module _ {D : Type 0} (e : EndpointValue D) (kept : IsSoundEndpoint e) where
       rested_ahead : AreAhead (standing_in s).identity (txsc.tx_side_of tx).next (rxsc.rx_side_of rx).numbers
           (standing_in s).ceilings
       rested_ahead =
-          subst (λ (x : Standing). AreAhead x.identity (txsc.tx_side_of tx).next (rxsc.rx_side_of rx).numbers x.ceilings)
+          subst
+          (λ (x : Standing). AreAhead x.identity (txsc.tx_side_of tx).next (rxsc.rx_side_of rx).numbers x.ceilings)
           (sym rests.done)
           (subst (λ (x : TxSide). AreAhead now.identity x.next (rxsc.rx_side_of rx).numbers numbers) (sym tx_side)
           (subst (λ (x : RxSide). AreAhead now.identity (txsc.tx_side_of e.tx).next x.numbers numbers) (sym rx_side)
@@ -182,7 +186,12 @@ module _ {D : Type 0} (e : EndpointValue D) (kept : IsSoundEndpoint e) where
         within = ahead-within tx rx (standing_in s) channels rested_ahead;
         few = kept.few;
         tickets = kept.tickets;
-        work = inl (record { store = rests.idle; reserving = resting.reserving; under_way = λ going. resting.under_way running });
+        work = inl (record {
+          store = rests.idle;
+          reserving = resting.reserving;
+          under_way =
+              λ going. resting.under_way running;
+        });
       }
 
       rested_state : (logs : Logs) → state_of rested logs ≡ state_of e logs
@@ -232,7 +241,12 @@ module _ {D : Type 0} (e : EndpointValue D) (kept : IsSoundEndpoint e) where
 
       pub unrested-kept : IsSoundEndpoint unrested
       unrested-kept = kept-held e unrested kept (stands_same rests.same) kept.few kept.tickets
-          (inl (record { store = rests.idle; reserving = resting.reserving; under_way = λ going. resting.under_way running }))
+          (inl (record {
+            store = rests.idle;
+            reserving = resting.reserving;
+            under_way =
+                λ going. resting.under_way running;
+          }))
 
     module _ (rests : StoreRests disk_of e.store numbers (Err fault.Disk) s) where
       cut_state : (logs : Logs) → state_of unrested logs ≡ state_after_fault (state_of e logs)
@@ -259,7 +273,8 @@ module _ {D : Type 0} (e : EndpointValue D) (kept : IsSoundEndpoint e) where
             size = large;
             stored = λ runs. absurd (not_stopped (is_stopped unrested) (rests.halted refl).0 runs);
             fits = λ logs image left.
-                subst (λ (x : State). Fits this_edition (disk_in disk_of unrested).sectors image x) (sym (cut_state logs))
+                subst (λ (x : State). Fits this_edition (disk_in disk_of unrested).sectors image x)
+                (sym (cut_state logs))
                 (either (disk_in disk_of unrested).sectors image large logs true (left_now image left));
             form = λ image left. (left_now image left).1;
           }
@@ -393,7 +408,8 @@ module _ {D : Type 0} (disk_of : D → Disk) (old mid : EndpointValue D) where
         let first = ends.reserves in
         record {
           step = λ logs.
-              subst (λ (s : State). ReserveStep s (as_refill result) (state_of new logs)) (first.step logs) (second.step logs);
+              subst (λ (s : State). ReserveStep s (as_refill result) (state_of new logs)) (first.step logs)
+              (second.step logs);
           idle = second.idle;
           ceilings = ceilings_on result (second.step no_logs) second.ceilings;
           spent = second.spent;
@@ -407,7 +423,8 @@ module _ {D : Type 0} (disk_of : D → Disk) (old mid : EndpointValue D) where
               let before : IsHonest (disk_in disk_of mid) = sym second.works.honest ∙ honest in
               let sectors = (disk_in disk_of old).sectors in
               Leaves-join (disk_in disk_of old) (disk_in disk_of mid) (disk_in disk_of new)
-              (FitsState (state_of old logs) (disk_in disk_of old)) (FitsState (state_of mid logs) (disk_in disk_of mid))
+              (FitsState (state_of old logs) (disk_in disk_of old))
+              (FitsState (state_of mid logs) (disk_in disk_of mid))
               (FitsState (state_of old logs) (disk_in disk_of old))
               (first.any_moment before backed logs) (second.any_moment honest (first.backed before backed) logs)
               (λ image fits. fits)

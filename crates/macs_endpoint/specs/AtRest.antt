@@ -51,7 +51,8 @@ pub record RestsAll {D : Type 0} (disk_of : D → Disk) (old : EndpointValue D) 
     (new : EndpointValue D) : Type 0 where
   pub step : (logs : Logs) → ReserveStep (state_of old logs) (as_refill result) (state_of new logs)
   pub idle : IsIdle new.store
-  pub ceilings : StandsRested (state_of old no_logs) (standing_in old.store) old.reserving result (standing_in new.store)
+  pub ceilings : StandsRested (state_of old no_logs) (standing_in old.store) old.reserving result
+      (standing_in new.store)
   pub spent : IsErrOf result rest.GenerationsSpent → generation new.store ≡ last_generation
   pub still : IsErrOf result rest.GenerationsSpent → IsIdle old.store → new.store ≡ old.store
   pub works : Works (disk_in disk_of old) (disk_in disk_of new)

@@ -36,7 +36,8 @@ use Rattle.macs_endpoint.specs.declared.queue.Waiting.{Waiting}
 use Rattle.macs_endpoint.specs.Queue.{last_ticket, queue_length, with_waiting}
 use Rattle.macs_endpoint.specs.State.{Accepts, Advanced, AdvancedLong, Advances, Call, Commands, NoneWait, Protects}
 use Rattle.macs_endpoint.specs.State.{Protected, Ran, Received, Receives, Refilled, Refills, RefusedLong, Reply, Rested}
-use Rattle.macs_endpoint.specs.State.{Rests, State, Submits, Submitted, state_after_fault, state_with_under_way, rx_side}
+use Rattle.macs_endpoint.specs.State.{Rests, State, Submits, Submitted, state_after_fault, state_with_under_way}
+use Rattle.macs_endpoint.specs.State.{rx_side}
 use Rattle.macs_endpoint.specs.State.{tx_side}
 
 -- ---- commands

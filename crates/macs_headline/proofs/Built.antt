@@ -106,7 +106,8 @@ module _ (image : Image) (area : ℕ) (head : Head) (records : List Record) wher
   opened_gate = subst IsOpen (sym (put-same (image_with_area image area head records) (gate area 0) (gate area 0)
       open_gate refl)) open_gate-opens
 
-pub each_get : (rs : List Record) (j : ℕ) (r : Record) → AllByRecursion IsRecord rs → slice_get rs j ≡ Some r → IsRecord r
+pub each_get : (rs : List Record) (j : ℕ) (r : Record) → AllByRecursion IsRecord rs → slice_get rs j ≡ Some r
+    → IsRecord r
 each_get [] j r are is = absurd (cc)
 each_get (x ∷ rs) zero r are is = let same : x ≡ r = cc in subst IsRecord same are.0
 each_get (x ∷ rs) (suc j) r are is = each_get rs j r are.1 is

@@ -215,7 +215,8 @@ exchanges-on (life ∷ lives) more e (inl among) =
           (exchanges-on lives more e (inl later))
     ]
 exchanges-on (life ∷ lives) more e (inr among) =
-    Contains-append_right (exchanges_in life) (exchanges_of_lives (lives ++ more)) e (exchanges-on lives more e (inr among))
+    Contains-append_right (exchanges_in life) (exchanges_of_lives (lives ++ more)) e
+    (exchanges-on lives more e (inr among))
 
 module _ {D : Type 0} (disk_of : D → Disk) where
   -- those of one deed

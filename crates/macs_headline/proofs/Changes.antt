@@ -100,7 +100,8 @@ module _ (old new : State) where
   by_receive : (frame : List ℕ) (result : Result Verdict Stopped) (out : List ℕ) → ReceiveStep old frame result out new
       → Change old (Receives frame) (Received result out) new
   by_receive frame (Ok verdict) out (inl (step, is_first, is_verdict, is_out, is)) = Stays is
-  by_receive frame (Ok verdict) out (inr (a, there, inl (is_verdict, above, is_out, is))) = HoldsBack frame refl a there is
+  by_receive frame (Ok verdict) out (inr (a, there, inl (is_verdict, above, is_out, is))) =
+      HoldsBack frame refl a there is
   by_receive frame (Ok verdict) out (inr (a, there, inr (is_verdict, is_out, is))) = Delivers frame refl a there is
   by_receive frame (Err stopped) out h = absurd h
 

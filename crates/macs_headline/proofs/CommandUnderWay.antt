@@ -40,7 +40,8 @@ by_change : (old : State) (call : Call) (reply : Reply) (new : State) → Change
     → IsAccepted new
 by_change old call reply new (Stays is) was = same_state old new is was
 by_change old call reply new (Stops is) was = subst (λ (s : State). IsAccepted s) (sym is) was
-by_change old call reply new (Obeys c asked none makes) was = none_under_way new (ap (λ (s : State). s.under_way) makes.2)
+by_change old call reply new (Obeys c asked none makes) was =
+    none_under_way new (ap (λ (s : State). s.under_way) makes.2)
 by_change old call reply new (Breaks c asked told none accepts is) was = subst (λ (s : State). IsAccepted s) (sym is)
     (one_under_way old c (no-refusal old.edition old.identity old.config c accepts))
 by_change old call reply new (Queues c asked is) was = subst (λ (s : State). IsAccepted s) (sym is) was
@@ -49,7 +50,8 @@ by_change old call reply new (BeginsAndStops asked mid takes is) was =
     subst (λ (s : State). IsAccepted s) (sym is) (taken_up old mid takes)
 by_change old call reply new (Completes asked first rest waiting makes) was =
     none_under_way new (ap (λ (s : State). s.under_way) makes.2)
-by_change old call reply new (Drops asked first rest waiting is) was = none_under_way new (ap (λ (s : State). s.under_way) is)
+by_change old call reply new (Drops asked first rest waiting is) was =
+    none_under_way new (ap (λ (s : State). s.under_way) is)
 by_change old call reply new (Sends plain asked pn out (none, (o, is_o, is_pn, is_out, is))) was =
     subst (λ (s : State). IsAccepted s) (sym is) was
 by_change old call reply new (HoldsBack frame asked a there is) was = subst (λ (s : State). IsAccepted s) (sym is) was

@@ -32,7 +32,8 @@ use Rattle.macs_endpoint.specs.State.{Submitted}
 use Rattle.macs_endpoint.specs.State.{Rested, Rests}
 use Rattle.macs_endpoint.specs.Step.{as_refill}
 use Rattle.macs_endpoint.specs.Step.{AdvanceStep, CommandStep, Ends, Exchange, IsStopped, ProtectStep}
-use Rattle.macs_endpoint.specs.Step.{ReceiveStep, RefillStep, RunningStep, Step, Steps, SubmitStep, TakesUp, state_without_first}
+use Rattle.macs_endpoint.specs.Step.{ReceiveStep, RefillStep, RunningStep, Step, Steps, SubmitStep, TakesUp}
+use Rattle.macs_endpoint.specs.Step.{state_without_first}
 use Rattle.macs_headline.specs.Commands.{CommandsKept, CommandsMake, FindsPrefix, acknowledged_by}
 use Rattle.macs_headline.specs.Commands.{acknowledged_commands, acknowledged_from, waiting_after, waiting_from}
 use Rattle.macs_headline.specs.Commands.{without_first}
@@ -169,8 +170,10 @@ by_receive : (old : State) (frame : List ℕ) (result : Result Verdict Stopped) 
     → ReceiveStep old frame result out new
     → IsMadeByCall old new (Receives frame) (Received result out)
 by_receive old frame (Ok verdict) out new (inl (step, is_first, is_verdict, is_out, is)) = unchanged old new is
-by_receive old frame (Ok verdict) out new (inr (a, there, inl (is_verdict, above, is_out, is))) = as_before old _ new is refl refl refl refl
-by_receive old frame (Ok verdict) out new (inr (a, there, inr (is_verdict, is_out, is))) = as_before old _ new is refl refl refl refl
+by_receive old frame (Ok verdict) out new (inr (a, there, inl (is_verdict, above, is_out, is))) =
+    as_before old _ new is refl refl refl refl
+by_receive old frame (Ok verdict) out new (inr (a, there, inr (is_verdict, is_out, is))) =
+    as_before old _ new is refl refl refl refl
 by_receive old frame (Err stopped) out new h = absurd h
 
 by_call : (old : State) (call : Call) (reply : Reply) (new : State) → RunningStep old call reply new

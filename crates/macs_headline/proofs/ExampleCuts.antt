@@ -262,14 +262,16 @@ module _ (one first second : List ℕ) (is_one : IsSector one) (is_first : IsSec
 
   pub torn-left : MayLeave compacting_disk (torn_image one first second)
   torn-left =
-      subst (λ (s : DiskState). IsImage s (torn_image one first second)) (sym (last-is full_image full_content full_snapshot))
+      subst (λ (s : DiskState). IsImage s (torn_image one first second))
+      (sym (last-is full_image full_content full_snapshot))
       (subst (λ (rs : List Record). IsImage (state_after_writes (settled_state full_image)
       (head_write ∷ body_writes 1 0 rs)) (torn_image one first second))
       (sym two_records) by_six)
 
 -- the octets that were written among them
 cut_is_torn : cut_image 2
-    ≡ torn_image (head_sector_of full_head) (sector_of (settings_record served_config)) (sector_of (kept.TxSa 0 own_sa 13))
+    ≡ torn_image (head_sector_of full_head) (sector_of (settings_record served_config))
+    (sector_of (kept.TxSa 0 own_sa 13))
 unfolding image_with_area image_with_bodies
 cut_is_torn = ap (λ (rs : List Record).
     image_with_bodies (put_sector full_image (head_body 1) (head_sector_of full_head)) 1 0 rs) two_records
@@ -277,7 +279,8 @@ cut_is_torn = ap (λ (rs : List Record).
 pub cut-left : MayLeave compacting_disk (cut_image 2)
 cut-left =
     subst (MayLeave compacting_disk) (sym cut_is_torn)
-    (torn-left (head_sector_of full_head) (sector_of (settings_record served_config)) (sector_of (kept.TxSa 0 own_sa 13))
+    (torn-left (head_sector_of full_head) (sector_of (settings_record served_config))
+    (sector_of (kept.TxSa 0 own_sa 13))
     head_whole settings_whole own_whole)
 
 -- ---- call by call

@@ -110,7 +110,8 @@ pub fits-last : Fits this_edition example_sectors last_image third_end
 fits-last = record {
   found = last_standing this_edition;
   is_found = last-is last_image last-found;
-  restart = inl (resumed third_end (last_standing this_edition) (up-to-itself this_edition) refl refl (λ an. tx_third (an == 0))
+  restart = inl
+      (resumed third_end (last_standing this_edition) (up-to-itself this_edition) refl refl (λ an. tx_third (an == 0))
       (rx_all third_end.numbers v0.numbers refl (λ sci an apart. (
         away u0.numbers None sci an apart ∙ ap (option_map first_numbers) (away no_ceilings.rx (Some 9) sci an apart),
         refl,
@@ -129,7 +130,8 @@ pub fits-killed : (image : Image) → HasEitherJournal last_content ended_conten
 fits-killed image (inl found) = record {
   found = last_standing this_edition;
   is_found = last-is image found;
-  restart = inl (resumed fourth_end (last_standing this_edition) (up-to-itself this_edition) refl refl (λ an. tx_fourth (an == 0))
+  restart = inl
+      (resumed fourth_end (last_standing this_edition) (up-to-itself this_edition) refl refl (λ an. tx_fourth (an == 0))
       (λ sci an. refl));
 }
 fits-killed image (inr found) = record {
@@ -140,7 +142,8 @@ fits-killed image (inr found) = record {
     fourth_followed,
     refl,
     ((checked_standing this_edition).config, refl, refl),
-    resumed fourth_followed (checked_standing this_edition) (up-to-itself this_edition) refl refl (λ an. tx_fourth (an == 0))
+    resumed fourth_followed (checked_standing this_edition) (up-to-itself this_edition) refl refl
+        (λ an. tx_fourth (an == 0))
         (λ sci an. refl),
   );
 }

@@ -46,7 +46,8 @@ use Rattle.macs_headline.specs.Images.{blank_image, image_while_formatted, image
 use Rattle.macs_headline.proofs.Built.{area-other, closed-gate, opened-found, opened-other, record-found, records-found}
 use Rattle.macs_headline.proofs.Built.{records-other}
 use Rattle.macs_headline.proofs.Later.{later-found, meaning-later, meaning-more, same-again, written-found}
-use Rattle.macs_headline.proofs.ExampleRecords.{first-ranges, example-head, head-range, second-ranges, snapshot-is, snapshot-ranges}
+use Rattle.macs_headline.proofs.ExampleRecords.{first-ranges, example-head, head-range, second-ranges, snapshot-is}
+use Rattle.macs_headline.proofs.ExampleRecords.{snapshot-ranges}
 use Rattle.macs_headline.proofs.ExampleRecords.{third-ranges, widened-range}
 use Rattle.macs_headline.proofs.Places.{put-that, put_rx, put_rx-that}
 

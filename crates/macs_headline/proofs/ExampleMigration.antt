@@ -260,7 +260,8 @@ closed_each k le =
     closes two_closed (gate 0 3) (gate 0 k) (λ no_three.
     closes one_closed (gate 0 2) (gate 0 k) (λ no_two.
     closes filled_image (gate 0 0) (gate 0 k) (λ no_zero.
-    filled_gate k le (λ is. no_zero (ap (gate 0) is)) (λ is. no_two (ap (gate 0) is)) (λ is. no_three (ap (gate 0) is)))))
+    filled_gate k le (λ is. no_zero (ap (gate 0) is)) (λ is. no_two (ap (gate 0) is))
+    (λ is. no_three (ap (gate 0) is)))))
 
 shut : (k : ℕ) → k ≤ slots → ¬ IsGateOpen closed_image 0 k
 shut k le = closed-gate closed_image 0 k (closed_each k le)

@@ -1,6 +1,7 @@
--- The state in which a life ends: as after its last answer, or with a command under way that the call which is cut short
--- may have taken.
-use Rattle.std.proofs.Common.{◌≡◌, ◌⊎◌, ◌&&◌, inl, inr, Bool, true, false, cond, not, is_ok, List, [], ◌∷◌, Option, Some}
+-- The state in which a life ends: as after its last answer, or with a command under way that the call which is cut
+-- short may have taken.
+use Rattle.std.proofs.Common.{◌≡◌, ◌⊎◌, ◌&&◌, inl, inr, Bool, true, false, cond, not, is_ok, List, [], ◌∷◌, Option}
+use Rattle.std.proofs.Common.{Some}
 use Rattle.std.proofs.Common.{None, refl}
 use Rattle.macs_config.specs.Apply.{apply}
 use Rattle.macs_config.specs.declared.command.Command.{Command}

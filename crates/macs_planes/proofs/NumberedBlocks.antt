@@ -33,7 +33,8 @@ number_rows_are = refl
 pub numbers_at : (p0 p1 p2 p3 : List ℕ) (m n : ℕ) → m < 2 * LANES → n < 8 → p0 ≡ take LANES (get_or NUMBERS 0 [])
     → p1 ≡ take LANES (get_or NUMBERS 1 []) → p2 ≡ take LANES (get_or NUMBERS 2 [])
     → p3 ≡ take LANES (get_or NUMBERS 3 [])
-    → octet_at (blocks_in LANES octet_basis (p0 ∷ p1 ∷ p2 ∷ p3 ∷ replicate LANES 0 ∷ replicate LANES 0 ∷ replicate LANES 0 ∷ replicate LANES 0
+    → octet_at (blocks_in LANES octet_basis
+    (p0 ∷ p1 ∷ p2 ∷ p3 ∷ replicate LANES 0 ∷ replicate LANES 0 ∷ replicate LANES 0 ∷ replicate LANES 0
     ∷ [])) m n ≡ number_at m n
 unfolding number_rows number_plane
 numbers_at p0 p1 p2 p3 m n h k e0 e1 e2 e3 =

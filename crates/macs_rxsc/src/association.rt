@@ -8,7 +8,8 @@ ghost use Rattle.macs_rxsc.specs.Receive.{IsOutcome, RxSide, numbers_after_deliv
 ghost use Rattle.macs_rxsc.specs.Receive.{numbers_after_hold, delivery_kind, put_numbers};
 ghost use Rattle.macs_rxsc.specs.Receive.{seen_after};
 ghost use Rattle.macs_rxsc.specs.Needs.{Need, need_of};
-ghost use Rattle.macs_rxsc.specs.Value.{association_at_rest, packet_numbers, sa_of, association_under};
+ghost use Rattle.macs_rxsc.specs.Value.{association_at_rest, packet_numbers, sa_of};
+ghost use Rattle.macs_rxsc.specs.Value.{association_under};
 
 use crate::need::RxNeed;
 use crate::policy::Policy;

@@ -89,7 +89,8 @@ recovered-meaning edition c format identity count records same_format same_ident
     sym (λ i. reading_of edition (same_format i) (same_identity i) (same_count i) (same_records i))
 
 -- a store without work, whose journal has none either and holds what is in memory
-pub idle_stored : {D : Type 0} (disk_of : D → Disk) (s : StoreValue D) (c : Content) → IsIdle s → journal.IsIdle s.journal
+pub idle_stored : {D : Type 0} (disk_of : D → Disk) (s : StoreValue D) (c : Content) → IsIdle s
+    → journal.IsIdle s.journal
     → HoldsContent disk_of s.journal c
     → meaning_of this_edition c ≡ Some (standing_in s) → c.head.format ≡ Two → IsStored disk_of s
 idle_stored disk_of s c idle rests holds stands form = record {

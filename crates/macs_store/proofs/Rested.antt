@@ -1,5 +1,6 @@
 -- What a planned end makes of a store, or that it is refused.
-use Rattle.std.proofs.Common.{◌≡◌, ◌⊎◌, inl, inr, true, false, List, length, Some, Result, Ok, Err, IsErrOf, OnErr, refl, sym}
+use Rattle.std.proofs.Common.{◌≡◌, ◌⊎◌, inl, inr, true, false, List, length, Some, Result, Ok, Err, IsErrOf, OnErr}
+use Rattle.std.proofs.Common.{refl, sym}
 use Rattle.std.proofs.Common.{ap, subst, arith, ◌∙◌, ℕ, ◌≤◌, ◌+◌}
 use Rattle.macs_config.specs.Config.{this_edition}
 use Rattle.macs_config.specs.Identity.{Identity}
@@ -73,7 +74,8 @@ module _ {D : Type 0} (disk_of : D → Disk) (old : StoreValue D) (idle : IsIdle
     length_same : length records ≡ length (snapshot after)
     length_same = ap (λ (s : Standing). length (snapshot s)) are
 
-    module _ (result : Result (Unit {0}) JournalFault) (t : StoreValue D) (begins : CompactsHeld disk_of mid result t) where
+    module _ (result : Result (Unit {0}) JournalFault) (t : StoreValue D)
+        (begins : CompactsHeld disk_of mid result t) where
       abbrev new : Disk
       new = disk_in disk_of t
 
@@ -138,7 +140,8 @@ module _ {D : Type 0} (disk_of : D → Disk) (old : StoreValue D) (idle : IsIdle
           work = begins.compacts.work;
           any_moment = λ honest stored. leaves rested_well t begins stored honest;
           stored = λ honest stored.
-              idle_stored disk_of t (later rested_well t begins stored) (begins.under_way ∙ idle) begins.compacts.running.1
+              idle_stored disk_of t (later rested_well t begins stored) (begins.under_way ∙ idle)
+              begins.compacts.running.1
               (begins.compacts.done honest stored.content (holds rested_well t begins stored))
               (later_stands rested_well t begins stored ∙ ap (λ (s : Standing). Some s) (sym now)) refl;
           kept = λ honest stored image left. record {

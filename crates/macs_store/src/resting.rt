@@ -22,9 +22,10 @@ use std::mem::replace;
 impl<D: SectorDisk> Store<D> {
     /// Compacts the journal, with the next packet numbers as ceilings: no number is used until the
     /// next reservation, and an opening skips none. No work is under way, before or after. Fails
-    /// with `Stopped`, then with `GenerationsSpent` if the generation is 2^64 - 1, even if slots are
-    /// free; these change nothing. Fails with `Disk` at the first device call that fails: memory is
-    /// unchanged, and after a power loss the ceilings are found unchanged, or at these numbers.
+    /// with `Stopped`, then with `GenerationsSpent` if the generation is 2^64 - 1, even if slots
+    /// are free; these change nothing. Fails with `Disk` at the first device call that fails:
+    /// memory is unchanged, and after a power loss the ceilings are found unchanged, or at these
+    /// numbers.
     pub fn rest_at<N: NextNumbers>(&mut self, next: &N) -> Result<(), JournalFault>
         requires idle { IsIdle self.old }
         requires stands { IsStanding (standing_with_ceilings (standing_in self.old)
@@ -104,7 +105,12 @@ fn tx_next<N: NextNumbers>(next: &N) -> [Option<Ceiling>; ASSOCIATIONS]
     ensures { (an : ℕ) → get_or result an None ≡ (N.numbers next.now).tx an }
 {
     let [first, second, third, fourth] = An::all();
-    [next.tx(first), next.tx(second), next.tx(third), next.tx(fourth)]
+    [
+        next.tx(first),
+        next.tx(second),
+        next.tx(third),
+        next.tx(fourth),
+    ]
 }
 
 /// The next packet numbers of a channel's associations, by their numbers.

@@ -16,7 +16,8 @@ use Rattle.macs_endpoint.specs.declared.progress.Step.TheVariants.{Idle}
 use Rattle.macs_headline.specs.History.{logs_of}
 use Rattle.macs_headline.specs.Moments.{Moment}
 use Rattle.macs_theorem.specs.Observer.{ExpectsReply, Observer}
-use Rattle.macs_theorem.proofs.Commands.{Goes, IsFirst, by-advance, by-command, by-refill, by-rest, by-submit, stopped-begins}
+use Rattle.macs_theorem.proofs.Commands.{Goes, IsFirst, by-advance, by-command, by-refill, by-rest, by-submit}
+use Rattle.macs_theorem.proofs.Commands.{stopped-begins}
 use Rattle.macs_theorem.proofs.Frames.{by-protect, by-receive}
 use Rattle.macs_theorem.proofs.Matches.{Follows, Matches, same-state}
 

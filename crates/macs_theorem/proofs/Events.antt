@@ -160,7 +160,8 @@ module _ {D : Type 0} (disk_of : D → Disk) (sound : (it : D) → IsHonest (dis
               h.history to.lead.1;
           covered = subst (λ (p : Past). IsCovered h.sectors p (disk_of new)) to.lead.2 to.covered;
           matches = right.2;
-          next = λ rested. absurd (awake right.0 (formats_awake (unrested o) identity result right.0 right.1 refl) rested);
+          next =
+              λ rested. absurd (awake right.0 (formats_awake (unrested o) identity result right.0 right.1 refl) rested);
         },
       )
 
@@ -302,7 +303,8 @@ module _ {D : Type 0} (disk_of : D → Disk) (sound : (it : D) → IsHonest (dis
         life = h.life;
       } in
       let expected = calls-are-expected h.sectors (logs_of h.past).given (state_of old h.logs) moment refl
-      kept.identity.sci.size (unrested o) (follows-rested (logs_of h.past).given (state_of old h.logs) o false h.follows)
+      kept.identity.sci.size (unrested o)
+      (follows-rested (logs_of h.past).given (state_of old h.logs) o false h.follows)
       call reply (state_of new step.0)
       (allowed old call reply new h.logs step.0 is.behaves.still is.behaves.advances step.1) step.1 in
       let turn : Transition D = record { call = call; reply = reply; after = new } in (

@@ -36,7 +36,8 @@ use Rattle.macs_headline.proofs.Places.{put-that, put-this}
 use Rattle.macs_theorem.specs.Events.{Answer, Answers, Calls, Closes, Ends, EndsIn, Event, Formats, Happen, Happens}
 use Rattle.macs_theorem.specs.Events.{Holds, HoldsDisk, HoldsEndpoint, IsAnswered, Opens, Shows}
 use Rattle.macs_theorem.specs.Observer.{ExpectsAll, ExpectsCall, ExpectsCut, ExpectsReply, IsDone, IsFound, IsSent}
-use Rattle.macs_theorem.specs.Observer.{Observer, after_command, begin, begun_in, new_observer, settings_after, unrested}
+use Rattle.macs_theorem.specs.Observer.{Observer, after_command, begin, begun_in, new_observer, settings_after}
+use Rattle.macs_theorem.specs.Observer.{unrested}
 use Rattle.macs_theorem.specs.Page.{AreProtected, NoNumberTwice, calls_in, installed_by, writes}
 use Rattle.macs_theorem.specs.Shown.{Settings, Shown, TxAssociation, shown_by}
 use Rattle.macs_theorem.proofs.Events.{all-is-expected}
@@ -317,9 +318,11 @@ module _ (keys : List (List ℕ)) where
       → (AllThese (calls_in events) → AreKnown new → AreOnce new (calls_in events))
       → AreOnce o (record { call = call; reply = reply } ∷ calls_in events)
   once_on o call reply new events these leads rest =
-      leads (λ key among. these key (Contains-append_left (installed_by call) (installed_in (calls_in events)) key among))
+      leads
+      (λ key among. these key (Contains-append_left (installed_by call) (installed_in (calls_in events)) key among))
       (calls_in events)
-      (rest (λ key among. these key (Contains-append_right (installed_by call) (installed_in (calls_in events)) key among)))
+      (rest (λ key among.
+      these key (Contains-append_right (installed_by call) (installed_in (calls_in events)) key among)))
 
   -- an event that is no call
   once_by : (o new : Observer) (calls : List Exchange) → Quiet o new → (AreKnown new → AreOnce new calls)

@@ -138,7 +138,8 @@ restarted s found o (inr (c, mid, hand, makes, up)) m skips =
       c,
       m.hand c hand,
       is-new o.before s o c config makes.1 m,
-      as_known (state_after_command s c config) found (after_command c o) after on (not_rested (after_command c o) found refl),
+      as_known (state_after_command s c config) found (after_command c o) after on
+          (not_rested (after_command c o) found refl),
     ))
     (known_after (state_after_command s c config) found (after_command c o) after on
     (not_rested (after_command c o) found refl))

@@ -43,7 +43,8 @@ module _ {D : Type 0} (disk_of : D → Disk) where
   )
 
   -- the events of a program that began with a new disk are expected
-  pub expected-run : ((it : D) → IsHonest (disk_of it) → IsSound (now (disk_of it))) → (disk : D) (keeps : List (Event Shown) → Type 0) (held : Holds D)
+  pub expected-run : ((it : D) → IsHonest (disk_of it) → IsSound (now (disk_of it)))
+      → (disk : D) (keeps : List (Event Shown) → Type 0) (held : Holds D)
       → IsNewDisk (disk_of disk) → IsKept disk_of disk keeps held → HearsExpected disk_of disk keeps held
   expected-run sound disk keeps held new (events, kept, happen) =
       (events, kept, happen, all-is-expected disk_of sound disk events held new happen)

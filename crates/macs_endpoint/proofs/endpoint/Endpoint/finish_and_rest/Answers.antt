@@ -33,12 +33,14 @@ module _ (g : Over) (c : After-finish_reservation g) where
 pub returns-then-is_err : goal.returns-then-is_err
 returns-then-is_err g c =
     let at = (goal.at.returns-then-is_err g c).After-finish_reservation in
-    rest-cut-before g.D.SectorDisk.disk c.args.self.now c.finish_reservation.new.self (cut g at (sym c.is_err.ensures.value ∙ c.if-is_err.true))
+    rest-cut-before g.D.SectorDisk.disk c.args.self.now c.finish_reservation.new.self
+    (cut g at (sym c.is_err.ensures.value ∙ c.if-is_err.true))
 
 pub rest_idle-requires-clause-running : goal.rest_idle-requires-clause-running
 rest_idle-requires-clause-running g c =
     let at = (goal.at.rest_idle-requires-clause-running g c).After-finish_reservation in
-    ap (λ s. s.stopped) ((ended g at (sym c.is_err.ensures.value ∙ c.if-is_err.false)).reserves.step no_logs) ∙ c.requires.running
+    ap (λ s. s.stopped) ((ended g at (sym c.is_err.ensures.value ∙ c.if-is_err.false)).reserves.step no_logs)
+    ∙ c.requires.running
 
 pub returns : goal.returns
 returns g c =

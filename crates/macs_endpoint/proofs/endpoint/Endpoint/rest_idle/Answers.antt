@@ -20,7 +20,8 @@ module _ (g : Over) (c : After-rest_at g) where
 
 pub rest_at-requires-clause-stands : goal.rest_at-requires-clause-stands
 rest_at-requires-clause-stands g c =
-    next-stands (endpoint_of c.self.inside.store c.self.inside.channels c.self.inside.queue c.self.inside.turn) c.self.invariant c.facts.ensures
+    next-stands (endpoint_of c.self.inside.store c.self.inside.channels c.self.inside.queue c.self.inside.turn)
+    c.self.invariant c.facts.ensures
 
 pub invariant_of-self : goal.invariant_of-self
 invariant_of-self g c =

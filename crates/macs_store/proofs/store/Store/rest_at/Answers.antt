@@ -13,7 +13,12 @@ returns-then-is_stopped g c =
 pub returns-in-Ok : goal.returns-in-Ok
 returns-in-Ok g c =
     let old : StoreValue g.row.D.Denot =
-    record { journal = c.self.inside.journal; held = c.self.inside.standing; under_way = under_way_of c.self.inside.under_way } in
+    record {
+      journal = c.self.inside.journal;
+      held = c.self.inside.standing;
+      under_way =
+          under_way_of c.self.inside.under_way;
+    } in
     rw (← c.self.view_is)
     (rested g.D.SectorDisk.disk old (rw (← c.self.view_is) at c.requires.idle)
     (g.N.NextNumbers.numbers c.args.next.now) c.put_ceilings-before.new.self c.put_ceilings-before.ensures.standing
@@ -22,9 +27,19 @@ returns-in-Ok g c =
 pub returns-in-Err : goal.returns-in-Err
 returns-in-Err g c =
     let old : StoreValue g.row.D.Denot =
-    record { journal = c.self.inside.journal; held = c.self.inside.standing; under_way = under_way_of c.self.inside.under_way } in
+    record {
+      journal = c.self.inside.journal;
+      held = c.self.inside.standing;
+      under_way =
+          under_way_of c.self.inside.under_way;
+    } in
     let new : StoreValue g.row.D.Denot =
-    record { journal = c.self-2.inside.journal; held = c.self-2.inside.standing; under_way = under_way_of c.self-2.inside.under_way } in
+    record {
+      journal = c.self-2.inside.journal;
+      held = c.self-2.inside.standing;
+      under_way =
+          under_way_of c.self-2.inside.under_way;
+    } in
     let begins = rw (← c.self-2.view_is) at c.in-Err.ensures in
     rw (← c.self.view_is)
     (not-rested g.D.SectorDisk.disk old (rw (← c.self.view_is) at c.requires.idle)

@@ -17,7 +17,8 @@ returns-clause-ceilings c =
     (ap (λ (xs : List ℕ). get_or xs 3 c.index-all-3.result) c.all.ensures)
     (ceilings_of c.args.self.now) (ceilings_of c.lower_at.new.self) (ceilings_of c.lower_at-2.new.self)
     (ceilings_of c.lower_at-3.new.self) (ceilings_of c.lower_at-4.new.self) (tx_side_of c.args.self.now).next
-    (tx_side_of c.lower_at.new.self).next (tx_side_of c.lower_at-2.new.self).next (tx_side_of c.lower_at-3.new.self).next
+    (tx_side_of c.lower_at.new.self).next (tx_side_of c.lower_at-2.new.self).next
+    (tx_side_of c.lower_at-3.new.self).next
     c.lower_at.ensures.few c.lower_at.ensures.ceilings (ap (λ (s : TxSide). s.next) c.lower_at.ensures.side)
     c.lower_at-2.ensures.ceilings (ap (λ (s : TxSide). s.next) c.lower_at-2.ensures.side) c.lower_at-3.ensures.ceilings
     (ap (λ (s : TxSide). s.next) c.lower_at-3.ensures.side) c.lower_at-4.ensures.ceilings
