@@ -4,4 +4,3 @@ pub mod Sent
 pub mod WrittenNumbers
 pub mod WrittenRecord
 pub mod WrittenHeader
-mod LetGo

@@ -8,8 +8,8 @@ use Rattle.std.proofs.lemmas.Bool.{le-ltb}
 use Rattle.macs_pcap.proofs.Fronts.{front, length-front, whole-taken}
 use Rattle.macs_pcap.specs.Faults.{field_fault, record_header_fault, header_fault, max_records, record_fault}
 use Rattle.macs_pcap.specs.Header.{BeginsWithHeader, header_in}
-use Rattle.macs_pcap.specs.Reading.{AnswersFault, AnswersRecordHeaderFault, HoldsOfLeft, IsOfRecordHeader, LeavesFrame}
-use Rattle.macs_pcap.specs.Reading.{ReadsHeader, TakesRecordHeader, TakesOctets, TellsFailedRead, fault_in}
+use Rattle.macs_pcap.specs.Reading.{AnswersRecordHeaderFault, HoldsOfLeft, IsOfRecordHeader, LeavesFrame, ReadsHeader}
+use Rattle.macs_pcap.specs.Reading.{TakesRecordHeader, TakesOctets, TellsFailedRead, fault_in}
 use Rattle.macs_pcap.specs.Records.{IsSoundRecordHeader, kept_in, stamp_in}
 use Rattle.macs_pcap.specs.States.{SourceState}
 use Rattle.macs_pcap.specs.declared.fault.PcapFault.{PcapFault}
@@ -148,27 +148,3 @@ pub sound-none : (big : Bool) (count : ℕ) (left : List ℕ) → IsSoundRecordH
     → 16 + kept_in big (take 16 left) ≤ length left
     → record_fault big count left ≡ None
 sound-none big count left sound few enough = search rules
-
-record-whole : (before between after : Option (List ℕ)) (big : Bool) (count room : ℕ) (header : RecordHeader)
-    (frame : List ℕ)
-    → HoldsOfLeft before between (TakesRecordHeader big (Some header)) → Consumes between after frame
-    → length frame ≡ header.kept → count < max_records
-    → IfSome before (AnswersFault big count room (Ok (Some header.stamp)))
-record-whole None between after big count room header frame p q size few = tt
-record-whole (Some left) None after big count room header frame p q size few = absurd p
-record-whole (Some left) (Some rest) None big count room header frame p q size few = absurd q
-record-whole (Some left) (Some rest) (Some more) big count room header frame p q size few =
-    let all : length left ≡ 16 + length rest = length-front left (take 16 left) rest 16 p.0.octets p.3 in
-    let behind : length rest ≡ header.kept + length more = length-front rest frame more header.kept size q in
-    let kept : header.kept ≡ kept_in big (take 16 left) = p.2 in
-    inr (inr (sym (sound-none big count left p.0 few (omega (arith, all, behind, kept)))))
-
--- where record header and frame were taken, the octets had no fault
-pub record-sound : (before between after : SourceState) (big : Bool) (count room : ℕ) (found : Option RecordHeader)
-    (header : RecordHeader) (frame : List ℕ) → found ≡ Some header
-    → HoldsOfLeft before.left between.left (TakesRecordHeader big found) → IfSome found (λ _. count < max_records)
-    → Consumes between.left after.left frame
-    → length frame ≡ header.kept → IfSome before.left (AnswersFault big count room (Ok (Some header.stamp)))
-record-sound before between after big count room (Some one) header frame is taken few sent size =
-    record-whole before.left between.left after.left big count room header frame (rw (← is) taken) sent size few
-record-sound before between after big count room None header frame is taken few sent size = search rules
