@@ -1,5 +1,5 @@
--- A disk whose calls somebody else makes, by what is known of it: a fuse around it that is blown, and has missed no call
--- yet.
+-- A disk whose calls somebody else makes, by what is known of it: a fuse around it that is blown, and has missed no
+-- call yet.
 use Rattle.macs_disk.specs.Fuses.{FuseValue}
 use Rattle.macs_disk.specs.declared.fuse.Blow.TheVariants.{EachCall}
 

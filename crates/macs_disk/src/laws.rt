@@ -5,7 +5,8 @@ ghost use Rattle.std.specs.Prelude.{◌≡◌, ◌≢◌, ◌≤◌, ◌+◌, �
 ghost use Rattle.std.specs.Prelude.{IsOk};
 ghost use Rattle.macs_disk.specs.States.{Image, IsImage, IsSector, IsSound, DiskState};
 ghost use Rattle.macs_disk.specs.States.{state_after_write};
-ghost use Rattle.macs_disk.specs.Disk.{Disk, IsDeviceCall, IsHonest, IsWork, MayLeave, Reads, Syncs};
+ghost use Rattle.macs_disk.specs.Disk.{Disk, IsDeviceCall, IsHonest, IsWork, MayLeave, Reads};
+ghost use Rattle.macs_disk.specs.Disk.{Syncs};
 ghost use Rattle.macs_disk.specs.Disk.{Works, Writes, now};
 ghost use Rattle.macs_disk.specs.Runs.{Leaves, LeavesNothingNew};
 ghost use Rattle.macs_disk.specs.Fuses.{FuseValue, disk_of_fuse};

@@ -13,9 +13,9 @@ use crate::disk::{DeviceFault, SectorDisk};
 use std::marker::Model;
 use std::snapshot::Snapshot;
 
-/// A disk whose calls somebody else makes, by what is known of it: how many sectors it has, and, for
-/// proofs alone, the disk as it was when it was last seen. Calls of this one do not reach it: each
-/// fails, and is counted as missed.
+/// A disk whose calls somebody else makes, by what is known of it: how many sectors it has, and,
+/// for proofs alone, the disk as it was when it was last seen. Calls of this one do not reach it:
+/// each fails, and is counted as missed.
 #[derive(Drop)]
 pub struct RemoteDisk<D: SectorDisk> {
     seen: Snapshot<D>,

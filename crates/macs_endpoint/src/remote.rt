@@ -23,7 +23,8 @@ impl<D: SectorDisk> Endpoint<RemoteDisk<D>> {
         ensures made { (asked : DeviceCall) (read : List ℕ)
             (answer : Result (Unit {0}) DeviceFault)
             → IsMade (D.disk (device_in self.old).inner) (D.disk disk.now) asked read answer
-            → IsMade (disk_in (disk_of_fuse D.disk) self.old) (disk_in (disk_of_fuse D.disk) self.new)
+            → IsMade (disk_in (disk_of_fuse D.disk) self.old)
+            (disk_in (disk_of_fuse D.disk) self.new)
             asked read answer }
     {
         self.store.see(disk);

@@ -92,7 +92,8 @@ module _ {T E : Type 0} (began d new : Disk) (area : ℕ) (head : Head) (records
       (λ image left. at.images image (sync-image (now d) (now new) result sound.fit syncs image left))
       (λ i apart. Spared-sync d new result i sound call syncs)
 
-  pub becomes-compacted : new.clock ≡ d.clock + 1 → now new ≡ state_after_sync (now d) → IsCompacted began new area head records
+  pub becomes-compacted : new.clock ≡ d.clock + 1 → now new ≡ state_after_sync (now d)
+      → IsCompacted began new area head records
   unfolding opening-on opening-synced
   becomes-compacted one is = record {
     opening = opening-synced;

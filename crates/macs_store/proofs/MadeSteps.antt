@@ -76,7 +76,8 @@ module _ {D : Type 0} (j : JournalValue D) (standing : Standing) where
   pub free-then : (place : Place) (r : Record) (u : UnderWay) → u ≡ Compacting r → FitsUnderWay j standing u
       → place ≡ place_then j.place j.under_way → place.free ≡ length (snapshot standing)
   free-then place r u u_is fits is =
-      let its : FitsUnderWay j standing (Compacting r) = subst (λ (h : UnderWay). FitsUnderWay j standing h) u_is fits in
+      let its : FitsUnderWay j standing (Compacting r) =
+      subst (λ (h : UnderWay). FitsUnderWay j standing h) u_is fits in
       ap (λ (p : Place). p.free) is ∙ compaction-slots j.place j.under_way (snapshot standing) its.2
 
 -- the same work continues, in the journal and so in the store

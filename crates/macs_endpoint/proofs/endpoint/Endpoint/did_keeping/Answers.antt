@@ -136,7 +136,8 @@ returns-in-Finished g c =
           None c.pop-done.ensures.after (work g at).reserving
           (followed-call g.D.SectorDisk.disk e kept keeping c.pop-done.result
           c.pop-done.new.self.waiting c.pop-done.ensures.waiting
-          c.did_call.new.self (step-done g.D.SectorDisk.disk e.store keeping.after keeping.leads c.did_call.new.self steps)
+          c.did_call.new.self
+          (step-done g.D.SectorDisk.disk e.store keeping.after keeping.leads c.did_call.new.self steps)
           c.follow.new.self.tx c.follow.new.self.rx
           followed.channels followed.next followed.numbers steps followed.tx_counters followed.rx_counters
           followed.channel_counters);
@@ -165,6 +166,7 @@ returns-in-Err g c =
           let keeping = before-keeping (old g at) before (work g at) in
           let steps = failed g at before asked next made c.in-Err.field-0 c.in-Err.is in
           cut_short-call g.D.SectorDisk.disk e (before-sound (old g at) before c.self.invariant) keeping
-          c.did_call.new.self (step-cut g.D.SectorDisk.disk e.store keeping.after keeping.leads c.did_call.new.self steps)
+          c.did_call.new.self
+          (step-cut g.D.SectorDisk.disk e.store keeping.after keeping.leads c.did_call.new.self steps)
           steps;
     })

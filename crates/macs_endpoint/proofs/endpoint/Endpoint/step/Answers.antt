@@ -24,10 +24,12 @@ returns g c =
     let begun = c.begin.ensures.begun c.in_default.is in
     let same = c.make-answer.ensures.same in
     let call : IsNextCall c.make-answer.new.self c.in-Some-next_call.call =
-    subst (λ (e : EndpointValue g.row.D.Denot). IsNextCall e c.in-Some-next_call.call) same c.in-Some-next_call.ensures.call in
+    subst (λ (e : EndpointValue g.row.D.Denot). IsNextCall e c.in-Some-next_call.call) same
+    c.in-Some-next_call.ensures.call in
     record {
       call = begun.step c.did_call.result c.did_call.new.self
           (subst (λ (e : EndpointValue g.row.D.Denot). IsCall g.D.SectorDisk.disk e Advances
           (Advanced c.did_call.result) c.did_call.new.self) (sym same)
-          (c.did_call.ensures.step (device_in c.begin.new.self) c.in-Some-next_call.call call c.make-answer.ensures.made));
+          (c.did_call.ensures.step (device_in c.begin.new.self) c.in-Some-next_call.call call
+          c.make-answer.ensures.made));
     }

@@ -23,7 +23,8 @@ returns g c =
       busy = λ is. no-idle c.did_advance.new.self.under_way
           (sym c.progress-progress.ensures ∙ is-idle c.progress-progress.result is);
       steps = λ before snapshot asked lent is made.
-          subst (λ (step : JournalStep). Steps g.D.SectorDisk.disk (with_device c.args.self.now before) snapshot (Ok step)
+          subst
+          (λ (step : JournalStep). Steps g.D.SectorDisk.disk (with_device c.args.self.now before) snapshot (Ok step)
           c.did_advance.new.self) (sym c.progress-progress.ensures)
           (steps-done g.D.SectorDisk.disk (with_device c.args.self.now before) c.did_advance.new.self snapshot
           c.requires.running c.requires.busy (did.advances before snapshot asked lent is made));

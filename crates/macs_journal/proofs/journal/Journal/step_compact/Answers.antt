@@ -22,5 +22,6 @@ returns g c =
     rw c.in-Compact.is
     (subst (λ (area : ℕ). IsCompactCall area c.in-Compact.work.head records c.in-Compact.work.stage
     c.compact_call-call.result) c.other.ensures c.compact_call-call.ensures.call) in
-    rw (← c.self.view_is) (c.did_compact.ensures.advances c.self.inside.disk records c.compact_call-call.result lent call
+    rw (← c.self.view_is)
+    (c.did_compact.ensures.advances c.self.inside.disk records c.compact_call-call.result lent call
     c.make-answer.ensures)

@@ -44,7 +44,8 @@ module _ (g : Over) (c : After-facts g) where
 pub did_call-requires-clause-busy : goal.did_call-requires-clause-busy
 did_call-requires-clause-busy g c =
     let at = (goal.at.did_call-requires-clause-busy g c).After-facts in
-    at-work c.self.inside.journal (standing_of c.self.inside.standing) (under_way_of c.self.inside.under_way) (fits g at)
+    at-work c.self.inside.journal (standing_of c.self.inside.standing)
+    (under_way_of c.self.inside.under_way) (fits g at)
     (busy g at)
 
 pub did_call-requires-clause-running : goal.did_call-requires-clause-running

@@ -6,7 +6,8 @@ use Rattle.macs_store.proofs.Turns.{rests-idle, rests-stopped}
 use Rattle.macs_store.proofs.store.Store.step.Goals as goal
 
 pub returns-then-is_stopped : goal.returns-then-is_stopped
-returns-then-is_stopped g c = rests-stopped g.D.SectorDisk.disk c.args.self.now (sym c.is_stopped.ensures ∙ c.if-is_stopped.true)
+returns-then-is_stopped g c =
+    rests-stopped g.D.SectorDisk.disk c.args.self.now (sym c.is_stopped.ensures ∙ c.if-is_stopped.true)
 
 pub returns-in_default : goal.returns-in_default
 returns-in_default g c =
@@ -28,5 +29,6 @@ returns g c =
     let same = c.make-answer.ensures.same in
     let call : IsNextCall c.make-answer.new.self c.in-Some.call =
     subst (λ (s : StoreValue g.row.D.Denot). IsNextCall s c.in-Some.call) same c.in-Some.ensures.call in
-    subst (λ (s : StoreValue g.row.D.Denot). Steps g.D.SectorDisk.disk s c.did_call.result c.did_call.new.self) (sym same)
+    subst
+    (λ (s : StoreValue g.row.D.Denot). Steps g.D.SectorDisk.disk s c.did_call.result c.did_call.new.self) (sym same)
     (c.did_call.ensures.steps (device_in c.args.self.now) c.in-Some.call call c.make-answer.ensures.made)
