@@ -1,5 +1,4 @@
 pub mod Applied
-pub mod Buffers
 pub mod Checked
 pub mod Commanded
 pub mod Examined
