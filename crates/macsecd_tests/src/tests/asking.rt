@@ -1,7 +1,7 @@
 //! Questions to a relay, over a connection that plays its answers. No answer comes from a relay.
 
-use crate::Outcome;
 use crate::Outcome::{Disk, DiskBehind, Done, Fault, FaultBehind, Refused};
+use crate::{Closing, Outcome};
 use macs_cli::Question;
 use macs_cli::Question::{About, Apply, Counters, Keys, Show, Stop, Traffic};
 use macs_control::{Asker, Connection, Taken};
@@ -10,6 +10,7 @@ use macs_program::{WriterStream, converse};
 use std::alloc::Global;
 use std::cell::{Cell, RefCell};
 use std::fs;
+use std::io::Write;
 use std::process::Abort;
 use std::rt::Files;
 use std::test::Fail;
@@ -143,7 +144,7 @@ fn answered(
     alloc: Global,
     asked: &Asked,
     record: &Record,
-    out: &mut Vec<u8>,
+    out: impl Write + Drop,
     err: &mut Vec<u8>,
 ) -> u8 {
     let mut asker = Asker::over(Played {
@@ -382,6 +383,24 @@ const APPLIED: &[(&[Piece], &str, Outcome)] = &[
     ),
 ];
 
+/// Applies both commands where so many lines can be printed, and looks at what is sent.
+fn expect_sent(rt: &(impl Abort + Files), alloc: Global, writes: u32, sent: &str) {
+    let asked = Asked {
+        question: Apply(ANY_END),
+        is_json: false,
+        pieces: &[Text("ok\nend 0\n", 2)],
+        sent: "",
+        outcome: NO_ANSWER,
+    };
+    let record = Record::new(alloc);
+    let mut err = Vec::new(alloc);
+    let out = Closing { writes, flushes: 9 };
+    let status = answered(rt, alloc, &asked, &record, out, &mut err);
+    assert!(rt; status == 5);
+    assert!(rt; err.as_slice() == b"macsecd: output\n".as_slice());
+    assert!(rt; record.has(sent));
+}
+
 const FIRST: &str = "set-replay on 9\n";
 
 const BOTH: &str = "set-replay on 9\ntx-use 1\n";
@@ -430,15 +449,29 @@ fn expect_applied(
     }
 }
 
-#[test]
-fn a_command_is_ok_once_a_relay_says_so(rt: HostRuntime) -> Result<(), Fail> {
+/// Writes the files.
+fn write_files(files: &impl Files) -> Result<(), Fail> {
     for (file, text) in FILES {
-        fs::write(&rt, *file, text.as_bytes())?;
-    }
-    expect_applied(&rt, rt.alloc(), ANY_END, APPLIED);
-    expect_applied(&rt, rt.alloc(), ONE_END, FOR_ONE);
-    for (file, _) in FILES {
-        fs::remove_file(&rt, *file)?;
+        fs::write(files, *file, text.as_bytes())?;
     }
     Ok(())
+}
+
+/// Removes them.
+fn remove_files(files: &impl Files) -> Result<(), Fail> {
+    for (file, _) in FILES {
+        fs::remove_file(files, *file)?;
+    }
+    Ok(())
+}
+
+#[test]
+fn a_command_is_ok_once_a_relay_says_so(rt: HostRuntime) -> Result<(), Fail> {
+    write_files(&rt)?;
+    expect_applied(&rt, rt.alloc(), ANY_END, APPLIED);
+    expect_applied(&rt, rt.alloc(), ONE_END, FOR_ONE);
+    // The line of a command is printed before the next one is sent.
+    expect_sent(&rt, rt.alloc(), 0, FIRST);
+    expect_sent(&rt, rt.alloc(), 1, BOTH);
+    remove_files(&rt)
 }

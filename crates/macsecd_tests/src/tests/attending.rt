@@ -239,6 +239,14 @@ removal STOPPING=1 named
 end
 ";
 
+const FAILED: &str = "\
+wire
+bound named
+turn READY=1 named
+removal STOPPING=1 named
+end
+";
+
 const PARENT: &[Step] = &[
     Run(
         &["format", "story-parent/disk", "12153524c0895e81", "4", "4"],
@@ -253,6 +261,23 @@ const PARENT: &[Step] = &[
         parent: "story-parent/notify",
         seen: SEEN,
         outcome: NOTHING,
+    }),
+    IsMissing("story-parent/control"),
+    // The same of a relay whose disk fails: its first turn is quiet, in the second it takes a
+    // command.
+    Attend(Attended {
+        disk: "story-parent/disk",
+        broken: Write(34),
+        turns: "200",
+        control: "story-parent/control",
+        clients: &[Client {
+            lines: "set-replay on 9\n",
+            later: "",
+            told: &[Text("end 4\n")],
+        }],
+        parent: "story-parent/other",
+        seen: FAILED,
+        outcome: Disk("macsecd: disk\n"),
     }),
     IsMissing("story-parent/control"),
 ];
