@@ -133,7 +133,7 @@ impl<S: Connection> Asker<S> {
         }
     }
 
-    /// Hears the relay once, and returns whether it is found to have ended the connection. `None`
+    /// Reads once from the relay, and returns whether it has ended the connection. `None`
     /// if the connection failed.
     fn hear_end(&mut self) -> Option<bool>
         ensures heard { IfSome result (λ ended. (octets : List ℕ)

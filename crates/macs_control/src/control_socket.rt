@@ -126,7 +126,7 @@ fn hear_if<L: Door<S>, S: Connection>(
     }
 }
 
-/// The socket of the client at a place, or none: nothing more arrives from one that sends no more.
+/// The socket of the client at a place; none if nobody is there, or the client sends no more.
 fn socket_at<S: Connection + Watched>(seats: &Seats<S>, at: usize) -> RawFd
     ensures { result ≡ socket_of S.number (slice_get (places_of seats.now) at) }
 {

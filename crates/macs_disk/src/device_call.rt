@@ -1,4 +1,4 @@
-//! A device call as a value: what should be done, apart from doing it.
+//! A device call as a value, and how it is made.
 
 ghost use Rattle.macs_disk.specs.DeviceCalls.{IsMade, IsWithin};
 

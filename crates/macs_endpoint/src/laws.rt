@@ -161,8 +161,8 @@ pub fn one_command_between<D: SectorDisk>()
 
 /// A planned end skips no packet number.
 ///
-/// After `rest` returned Ok, each ceiling is the next packet number. As long as it is, and no
-/// device call failed, each image that a power loss leaves has exactly these numbers, so that an
+/// After `rest` returned Ok, each ceiling is the next packet number. As long as that holds, and
+/// no device call failed, each image that a power loss leaves has exactly these numbers, so that an
 /// opening continues from them.
 pub fn rests_skip_no_number<D: SectorDisk>()
     ensures level { (old new : EndpointValue D) → IsCall D.disk old Rests (Rested (Ok tt)) new

@@ -37,8 +37,9 @@ impl<D: SectorDisk> Endpoint<D> {
     /// number. A reservation under way is finished first; then the journal is compacted, with the
     /// next packet numbers as ceilings, so no number is used until it is reserved again. Fails with
     /// `Stopped`, then with `Busy` if a submitted command is pending; these change nothing. Then
-    /// with `GenerationsSpent` if the generation is 2^64 - 1; and with `Disk` at the first device
-    /// call that fails: the next opening finds the ceilings unchanged, or at the next numbers.
+    /// with `GenerationsSpent` if the generation is 2^64 - 1: only a reservation under way is made;
+    /// and with `Disk` at the first device call that fails: the next opening finds the ceilings as
+    /// they were, with that reservation or without, or at the next numbers.
     pub fn rest(&mut self) -> Result<(), RestFault>
         ensures call { IsCall D.disk self.old Rests (Rested result) self.new }
     {

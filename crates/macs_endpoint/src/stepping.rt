@@ -70,8 +70,8 @@ impl<D: SectorDisk> Endpoint<D> {
 
     /// Begins what is due, unless work is under way, and makes no device call: the first part of a
     /// `step`. `None` if work is under way then: `next_call` returns the call that it needs.
-    /// Otherwise the answer of a step that is complete without one: `Stopped`, `Idle`, a command
-    /// that is refused, or no room for a compaction that is needed.
+    /// Otherwise the answer of a step that is complete without one: `Stopped`, `Idle`, `Done` with
+    /// a command that is not kept, or `GenerationsSpent`.
     pub fn begin(&mut self) -> Option<Result<Step, StepFault>>
         ensures ended { IfSome result
             (λ answer. IsCall D.disk self.old Advances (Advanced answer) self.new) }
@@ -105,7 +105,7 @@ impl<D: SectorDisk> Endpoint<D> {
         }
     }
 
-    /// Starts a reservation, unless there is no room for it.
+    /// Starts a reservation, or fails with `GenerationsSpent`.
     fn begin_raise(&mut self, raise: Raise) -> Option<Result<Step, StepFault>>
         requires running { is_stopped self.old ≡ false }
         requires idle { IsIdle self.old.store }

@@ -43,6 +43,6 @@ pub(crate) fn compact_call<R: RecordSource>(
         // The bodies and the closed gates are durable before the head is opened.
         CompactStage::BodiesSync => DeviceCall::Sync,
         CompactStage::HeadGate => DeviceCall::Write(area.head_gate(), open_gate()),
-        CompactStage::HeadSync => DeviceCall::Sync, // The head is durable before that is answered.
+        CompactStage::HeadSync => DeviceCall::Sync, // The head is durable before the answer.
     }
 }

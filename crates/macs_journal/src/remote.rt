@@ -13,9 +13,9 @@ use crate::journal::Journal;
 use macs_disk::{RemoteDisk, SectorDisk};
 
 impl<D: SectorDisk> Journal<RemoteDisk<D>> {
-    /// Sees the disk again, after the call that `next_call` returned was made of it, and no other.
-    /// It has as many sectors as before, and no call was made of the journal's own disk. `did_call`
-    /// continues then.
+    /// Shows it the disk as it is now: the call that `next_call` returned was made there, and no
+    /// other. It has as many sectors as before, and the journal's own disk was not called.
+    /// `did_call` continues then.
     pub fn see(&mut self, disk: &D)
         requires unmissed { (device_in self.old).missed ≡ 0 }
         requires size { (D.disk disk.now).sectors ≡ (D.disk (device_in self.old).inner).sectors }

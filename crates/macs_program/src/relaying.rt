@@ -42,7 +42,7 @@ fn print_summary<W: Stream>(summary: RelaySummary, out: &mut W) -> Result<Status
 }
 
 /// Relays frames between two wires, attended by a desk, and prints what became of them. Fails with
-/// `Disk` at the first reservation of packet numbers that cannot be made, with nothing printed; and
+/// `Disk` at the first step that fails, of a reservation or of a command, with nothing printed; and
 /// with `Output` after the end of the relay, if the line cannot be written.
 pub fn relay_frames<D: SectorDisk, P: Wire, C: Wire, K: Desk<D, P, C>, W: Stream>(
     endpoint: &mut Endpoint<D>,

@@ -106,8 +106,8 @@ impl Rx {
         self.table.slide(window);
     }
 
-    /// Lowers the ceiling of each association to its next packet number: no frame is delivered as
-    /// verified until it is raised again.
+    /// Lowers the ceiling of each association to its next packet number: until it is raised, a
+    /// frame that verifies with that number or a greater one is held back.
     pub fn lower(&mut self)
         ensures side { rx_side_of self.new ≡ rx_side_of self.old }
         ensures ceilings { ceilings_of self.new ≡ (λ sci an. option_map (λ (n : Numbers). n.next)

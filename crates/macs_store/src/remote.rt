@@ -13,8 +13,8 @@ use crate::store::Store;
 use macs_disk::{RemoteDisk, SectorDisk};
 
 impl<D: SectorDisk> Store<RemoteDisk<D>> {
-    /// Sees the disk again, after the call that `next_call` returned was made of it, and no other.
-    /// It has as many sectors as before, and no call was made of the store's own disk. `did_call`
+    /// Shows it the disk as it is now: the call that `next_call` returned was made there, and no
+    /// other. It has as many sectors as before, and the store's own disk was not called. `did_call`
     /// continues then.
     pub fn see(&mut self, disk: &D)
         requires unmissed { (device_in self.old).missed ≡ 0 }

@@ -83,8 +83,8 @@ const SUBCOMMANDS: &[(&str, &[(&str, Kind)])] = &[
     ("about", &[]),
 ];
 
-/// The words before any subcommand: they begin after the program's name, and the library's own help
-/// and version flags and its help subcommand are disabled.
+/// The program's words without subcommands. They begin after its name; clap's own help and version
+/// flags and its help subcommand are off.
 fn bare_words<'a>(alloc: Global) -> Command<'a>
     ensures { app_of result ≡ bare_app }
 {
