@@ -20,7 +20,7 @@ use Rattle.macs_endpoint.specs.Calls.{IsCall}
 use Rattle.macs_endpoint.specs.Faults.{refill_fault_named}
 use Rattle.macs_endpoint.specs.Lives.{Lives, Transition}
 use Rattle.macs_endpoint.specs.Opening.{IsOpening, Opens}
-use Rattle.macs_endpoint.specs.State.{Advances, Call, Commands, Protects, Ran, Receives, Refilled, Refills, Reply}
+use Rattle.macs_endpoint.specs.State.{Advances, Call, Commands, Protects, Ran, Receives, Refilled, Refills, Reply, Rests}
 use Rattle.macs_endpoint.specs.State.{State, Submits, no_logs}
 use Rattle.macs_endpoint.specs.Step.{CommandStep, RunningStep, Step}
 use Rattle.macs_endpoint.specs.Value.{EndpointValue, state_of}
@@ -184,6 +184,7 @@ module _ {D : Type 0} (disk_of : D → Disk) where
   called-none old new (Receives frame) reply ours is none =
       frame-waits disk_of old new (Receives frame) reply tt is ∙ none
   called-none old new Refills reply ours is none = refilled-none old new reply is none
+  called-none old new Rests reply ours is none = absurd ours
   called-none old new (Commands command) reply ours is none = absurd ours
   called-none old new (Submits command) reply ours is none = absurd ours
   called-none old new Advances reply ours is none = absurd ours
