@@ -4,12 +4,12 @@ use Rattle.macs_program.proofs.run.perform_tool.Goals as goal
 pub returns-in-Ask : goal.returns-in-Ask
 returns-in-Ask g c = λ input. rw c.in-Ask.is
     (asks g.row.T.Denot _ _ _ _ input _ _ _ _ _ _ c.ask.ensures.printed c.ask.ensures.failed c.ask.ensures.front
-        c.ask.ensures.broken)
+    c.ask.ensures.broken)
 
 pub returns-in-Key : goal.returns-in-Key
 returns-in-Key g c = λ input. rw c.in-Key.is
     (keys g.row.T.Denot _ _ _ _ input _ _ _ _ c.key.ensures.printed c.key.ensures.failed c.key.ensures.silent
-        c.key.ensures.broken)
+    c.key.ensures.broken)
 
 pub returns-in-Inspect : goal.returns-in-Inspect
 returns-in-Inspect g c =
