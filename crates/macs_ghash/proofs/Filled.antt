@@ -1,10 +1,11 @@
 -- Tables of four bits, from the octets of multiples by powers of x.
 use Rattle.std.proofs.Common.{◌≡◌, ℕ, zero, suc, ◌+◌, ◌-◌, ◌*◌, ◌/◌, ◌%◌, ◌^◌, ◌<◌, ◌≤◌, ◌∙◌, List, [], map, get_or}
-use Rattle.std.proofs.Common.{get_or-take, length, length-take-le, take, replicate, bit_or, bit_xor, cond, ap, ap₂, sym}
-use Rattle.std.proofs.Common.{subst, refl, arith, w8, T, ltb, ◌||◌}
+use Rattle.std.proofs.Common.{get_or-take, length, length-take-le, take, replicate, set, bit_or, bit_xor, cond, ap, ap₂}
+use Rattle.std.proofs.Common.{sym, subst, refl, arith, w8, T, ltb, ◌||◌}
 use Rattle.std.specs.Int.{bit_at}
 use Rattle.std.specs.List.{range_with_len}
 use Rattle.std.specs.Simd.Lanes.{Each1, digits_l, number_l, zip2}
+use Rattle.std.proofs.lemmas.List.{get_or-set_other}
 use Rattle.std.proofs.lemmas.List.FromFn.{get_or-map-range_with_len}
 use Rattle.std.proofs.lemmas.Nat.{pow_pos, xor_mod, xor_shr}
 use Rattle.std.proofs.lemmas.Nat.Bits.{bit_at-lt}
@@ -218,3 +219,12 @@ pub powers_on : (xs second third fourth : List ℕ) (l : ℕ) → get_or second 
     × ((get_or third l 0 ≡ times_power 2 (get_or xs l 0)) × (get_or fourth l 0 ≡ times_power 3 (get_or xs l 0))))
 unfolding times_power
 powers_on xs second third fourth l e f g = (refl, (e, (f ∙ ap times_x e, g ∙ ap times_x (f ∙ ap times_x e))))
+
+zeros_at : (n m : ℕ) → get_or {A = ℕ} (replicate n 0) m 0 ≡ 0
+zeros_at zero m = refl
+zeros_at (suc n) zero = refl
+zeros_at (suc n) (suc m) = zeros_at n m
+
+-- one number, and zeros after it
+pub first_alone : (n x g : ℕ) → 0 < g → get_or (set (replicate n 0) 0 x) g 0 ≡ 0
+first_alone n x g some = get_or-set_other (replicate n 0) 0 g x 0 (omega arith) ∙ zeros_at n g
