@@ -4,10 +4,12 @@
 //     relay rest OWN1 PEER1 OWN2 PEER2          the same, and sleeps until a datagram is there (epoll)
 //     relay load OWN1 PEER1 OWN2 OCTETS COUNT   sends frames to PEER1 and counts those that come to OWN2
 //     relay trips OWN1 PEER1 OWN2 OCTETS COUNT  the same one at a time, a millisecond apart
+//     relay gaps OWN1 PEER1 OWN2 OCTETS COUNT RATE  the same at so many a second, whether they come or not
 //     relay play OWN1 PEER1 OWN2 CAPTURE        as load, with the frames of a capture, each once
 //
 // Addresses are ports on loopback. The load has at most 32 frames under way, so that no socket's buffer overflows; a frame that does not
 // come within a tenth of a second, of `play` within two seconds, is lost. It prints the frames that came, the seconds, and the frames a second.
+// `gaps` prints the frames that came, and the longest time in milliseconds in which none did, from the first to the last that came.
 // `trips` prints the frames that came, and the median and the 99th of a hundred of the microseconds from a send until the frame is there.
 #include <arpa/inet.h>
 #include <stdint.h>
@@ -18,6 +20,7 @@
 #include <sys/socket.h>
 #include <sys/time.h>
 #include <time.h>
+#include <unistd.h>
 
 enum { WINDOW = 32, ROOM = 65536 };
 
@@ -109,6 +112,29 @@ static int trips(char **words) {
     return 0;
 }
 
+static int gaps(char **words) {
+    int from = bound(words[0]), to = bound(words[2]);
+    struct sockaddr_in peer = at(words[1]);
+    size_t octets = atoi(words[3]);
+    long count = atol(words[4]), sent = 0, came = 0;
+    double rate = atof(words[5]), begin = now(), last = 0, longest = 0;
+    static char frame[ROOM], room[ROOM];
+    memset(frame, 0x5a, octets);
+    // A frame that comes a second after the last one was sent is late enough to be lost.
+    while (now() - begin < count / rate + 1) {
+        for (; sent < count && sent <= (now() - begin) * rate; sent++)
+            sendto(from, frame, octets, 0, (struct sockaddr *)&peer, sizeof peer);
+        while (recv(to, room, ROOM, MSG_DONTWAIT) >= 0) {
+            double at = now();
+            if (came++ && at - last > longest) longest = at - last;
+            last = at;
+        }
+        usleep(50);
+    }
+    printf("%ld %.1f\n", came, longest * 1e3);
+    return 0;
+}
+
 struct frame {
     const char *octets;
     size_t count;
@@ -170,6 +196,7 @@ int main(int words, char **word) {
     if (words == 6 && !strcmp(word[1], "rest")) rest(word + 2);
     if (words == 7 && !strcmp(word[1], "load")) return load(word + 2);
     if (words == 7 && !strcmp(word[1], "trips")) return trips(word + 2);
+    if (words == 8 && !strcmp(word[1], "gaps")) return gaps(word + 2);
     if (words == 6 && !strcmp(word[1], "play")) return play(word + 2);
     return 2;
 }

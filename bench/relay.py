@@ -3,6 +3,7 @@
 
     python3 bench/relay.py [--wait] [FRAMES]
     python3 bench/relay.py --receive [FRAMES]
+    python3 bench/relay.py --slow [FRAMES]
 
 FRAMES is 20,000 for each of the two sizes, 64 and 1,400 octets; blocks are 65,536. The two relays run in turn, five times; the figures
 are those of the most frames a second. What a frame takes longer in macsecd is the endpoint's part. With `--wait` both relays sleep while nothing
@@ -13,6 +14,10 @@ With `--receive` it measures the other direction: protected frames of 60 and 1,4
 fast as they are delivered, 32 under way, with RX of 4, 16, 64 and 1,024 (each round with a new disk file in the folder for temporary files, TMPDIR,
 which has to be on a disk: the syncs are what is measured). Printed are the frames and the Mbit/s of plain frames that are delivered, the most of
 three rounds, and the octets a frame that the relay wrote into its disk file (`write_bytes` of /proc/PID/io: whole pages, as the device gets them).
+
+With `--slow` each sync of `relay --wait 1000` takes 0, 5, 50 and 200 ms longer (bench/slow_sync.c, preloaded), with TX and RX of 1,024, while 2,000 plain
+frames of 256 octets a second come in on the controlled side, 8,000 unless FRAMES are named. Printed are the frames that were lost, and the longest time in
+which none came out, of each of three rounds.
 
 macsecd is built for x86-64-v3 unless MACSECD_CPU names another level; MACSECD_PROGRAM=PATH takes the program that is there. It needs a C compiler, cc.
 """
@@ -35,6 +40,8 @@ IDLE = 60
 SIZES = (64, 1400)
 # Of `--receive`: plain octets, numbers reserved at a time, rounds, and frames unless said.
 RECEIVED, BLOCKS, RECEIVING_ROUNDS, RECEIVING_FRAMES = (60, 1400), (4, 16, 64, 1024), 3, 20_000
+# Of `--slow`: how much longer a sync takes, in milliseconds, rounds, octets, frames a second, frames unless said, and TX and RX.
+SLOWER, SLOW_ROUNDS, SLOW_OCTETS, SLOW_RATE, SLOW_FRAMES, SLOW_BLOCK = (0, 5, 50, 200), 3, 256, 2_000, 8_000, 1_024
 SCI = "0200000000010001"
 KEY = "000102030405060708090a0b0c0d0e0f"
 # The host's port and the relay's on the controlled side, then the relay's and the host's on the common side.
@@ -70,11 +77,12 @@ offset = 0
 class Relay:
     """A relay that runs, until the end of the block."""
 
-    def __init__(self, words):
+    def __init__(self, words, environment=None):
         self.words = words
+        self.environment = {**os.environ, **(environment or {})}
 
     def __enter__(self):
-        self.process = subprocess.Popen(self.words, stdout=subprocess.DEVNULL)
+        self.process = subprocess.Popen(self.words, stdout=subprocess.DEVNULL, env=self.environment)
         return self
 
     def __exit__(self, *_):
@@ -144,14 +152,14 @@ def built_tool(folder):
     return tool
 
 
-def new_disk(disk, sci, rx, text):
+def new_disk(disk, sci, rx, text, tx=65536):
     """Makes a disk file for an endpoint, with these commands applied."""
     # Its keys are the same each time, so the list of those that were used goes too.
     for name in (disk, disk + ".spent"):
         if os.path.exists(name):
             os.unlink(name)
     quiet = {"check": True, "stdout": subprocess.DEVNULL}
-    subprocess.run([PROGRAM, "format", disk, sci, "65536", str(rx)], **quiet)
+    subprocess.run([PROGRAM, "format", disk, sci, str(tx), str(rx)], **quiet)
     with open(disk + ".commands", "w", encoding="utf-8") as file:
         file.write(text)
     subprocess.run([PROGRAM, "apply", disk, disk + ".commands"], **quiet)
@@ -212,6 +220,29 @@ def measure_receiving(folder, frames):
             )
 
 
+# Slow syncs.
+
+def pass_slowly(tool, library, disk, slower, frames):
+    """How many frames were lost while syncs took so much longer, and the longest time without one, in milliseconds."""
+    new_disk(disk, SCI, SLOW_BLOCK, COMMANDS, SLOW_BLOCK)
+    with Relay([*relaying(disk), "--wait", "1000"], {"LD_PRELOAD": library, "SLOW_SYNC": str(slower)}):
+        until_bound(OWN2)
+        # The reservations after the opening are not measured.
+        time.sleep(1 + slower / 100)
+        said = subprocess.run([tool, "gaps", INSIDE, OWN1, OUTSIDE, str(SLOW_OCTETS), str(frames), str(SLOW_RATE)], check=True, capture_output=True, text=True)
+        came, longest = said.stdout.split()
+        return frames - int(came), float(longest)
+
+
+def measure_slowed(folder, frames):
+    tool, disk, library = built_tool(folder), os.path.join(folder, "disk"), os.path.join(folder, "slow_sync.so")
+    subprocess.run(["cc", "-O2", "-shared", "-fPIC", "-o", library, os.path.join(TOP, "bench/slow_sync.c")], check=True)
+    for slower in SLOWER:
+        rounds = [pass_slowly(tool, library, disk, slower, frames) for _ in range(SLOW_ROUNDS)]
+        said = "; ".join(f"{lost} of {frames} lost, none for {longest:.1f} ms" for lost, longest in rounds)
+        print(f"syncs {slower} ms longer, {SLOW_RATE} frames a second: {said}", flush=True)
+
+
 # The sending direction.
 
 def measure_sending(folder, frames, waits):
@@ -228,7 +259,7 @@ def measure_sending(folder, frames, waits):
 
 
 def main():
-    options = {"--wait", "--receive"} & set(sys.argv[1:])
+    options = {"--wait", "--receive", "--slow"} & set(sys.argv[1:])
     counts = [it for it in sys.argv[1:] if it not in options]
     if len(counts) > 1 or len(options) > 1 or not all(it.isdigit() for it in counts):
         sys.exit(__doc__)
@@ -237,6 +268,8 @@ def main():
     with tempfile.TemporaryDirectory() as folder:
         if "--receive" in options:
             measure_receiving(folder, int(counts[0]) if counts else RECEIVING_FRAMES)
+        elif "--slow" in options:
+            measure_slowed(folder, int(counts[0]) if counts else SLOW_FRAMES)
         else:
             measure_sending(folder, int(counts[0]) if counts else 20_000, "--wait" in options)
 
