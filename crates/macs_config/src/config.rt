@@ -153,7 +153,8 @@ impl Config {
         Ok(())
     }
 
-    /// What holds of every configuration; and there is nothing at an association number above 3.
+    /// For proofs, does nothing: what holds of every configuration; and there is nothing at an
+    /// association number above 3.
     pub fn facts(&self)
         ensures config { IsConfig this_edition self.now.identity (config_of self.now) }
         ensures tx_numbers { (an : ℕ) → 4 ≤ an → (config_of self.now).tx an ≡ None }

@@ -21,7 +21,7 @@ impl Channel {
     ghost use Rattle.std.specs.Prelude.{◌≡◌, ◌≤◌, ℕ, None, get_or};
     ghost use Rattle.macs_config.specs.Tables.{put};
 
-    /// There is nothing at an association number above 3.
+    /// For proofs, does nothing: there is nothing at an association number above 3.
     fn facts(&self)
         ensures { (an : ℕ) → 4 ≤ an → get_or self.now.associations an None ≡ None }
     {
@@ -108,7 +108,7 @@ impl Contents {
         self.spent_rx.clear();
     }
 
-    /// There is nothing at an association number above 3.
+    /// For proofs, does nothing: there is nothing at an association number above 3.
     pub(crate) fn facts(&self)
         ensures tx { (an : ℕ) → 4 ≤ an → (config_in self.now).tx an ≡ None }
         ensures rx { (sci : List ℕ) (an : ℕ) → 4 ≤ an → (config_in self.now).rx sci an ≡ None }

@@ -267,8 +267,8 @@ impl<D: SectorDisk> Endpoint<D> {
         self.channels.rx.numbers(sci, an)
     }
 
-    /// What holds of every endpoint: its channels are those in its store, no ceiling is too far
-    /// ahead, the queue is not overfull, and the work under way is a reservation or the first
+    /// For proofs, does nothing: an endpoint's channels are those in its store, no ceiling is too
+    /// far ahead, the queue is not overfull, and the work under way is a reservation or the first
     /// pending command.
     pub fn facts(&self)
         ensures { IsSoundEndpoint self.now }

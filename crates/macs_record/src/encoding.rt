@@ -7,7 +7,7 @@ ghost use Rattle.macs_record.specs.declared.record.Record.TheVariants as recorde
 use crate::SECTOR;
 use crate::ceiling::Ceiling;
 use crate::record::Record;
-use crate::writing::Writer;
+use crate::writing::RecordWriter;
 use macs_config::{Fingerprints, Replay, Role, RxSa, SciMode, TxSa, Validate};
 use macs_fields::{An, Pn, Sci};
 
@@ -19,12 +19,12 @@ pub(crate) const MARK: [u8; 4] = *b"MREC";
 pub fn encode(value: &Record) -> [u8; SECTOR]
     ensures { result ≡ sector_of value.now }
 {
-    let front = Writer::new().octets(&MARK).octet(value.kind().number());
+    let front = RecordWriter::new().octets(&MARK).octet(value.kind().number());
     write_fields(value, front).finish()
 }
 
 /// Writes the fields of a record.
-fn write_fields(value: &Record, to: Writer) -> Writer
+fn write_fields(value: &Record, to: RecordWriter) -> RecordWriter
     requires room { length to ≤ 5 }
     ensures { result ≡ to ++ fields_of value.now }
 {
@@ -62,8 +62,8 @@ fn write_settings(
     replay: Replay,
     sci_mode: SciMode,
     encoding: Option<An>,
-    to: Writer,
-) -> Writer
+    to: RecordWriter,
+) -> RecordWriter
     requires room { length to ≤ 5 }
     ensures { result ≡ to ++ fields_of (recorded.Settings validate replay sci_mode encoding) }
 {
@@ -74,7 +74,7 @@ fn write_settings(
 }
 
 /// Writes a transmit association of a snapshot.
-fn write_tx_sa(an: An, sa: &TxSa, ceiling: Ceiling, to: Writer) -> Writer
+fn write_tx_sa(an: An, sa: &TxSa, ceiling: Ceiling, to: RecordWriter) -> RecordWriter
     requires room { length to ≤ 5 }
     ensures { result ≡ to ++ fields_of (recorded.TxSa an sa.now ceiling) }
 {
@@ -85,7 +85,7 @@ fn write_tx_sa(an: An, sa: &TxSa, ceiling: Ceiling, to: Writer) -> Writer
 }
 
 /// Writes a receive association of a snapshot.
-fn write_rx_sa(sci: Sci, an: An, sa: &RxSa, ceiling: Ceiling, to: Writer) -> Writer
+fn write_rx_sa(sci: Sci, an: An, sa: &RxSa, ceiling: Ceiling, to: RecordWriter) -> RecordWriter
     requires room { length to ≤ 5 }
     ensures { result ≡ to ++ fields_of (recorded.RxSa sci an sa.now ceiling) }
 {
@@ -97,7 +97,7 @@ fn write_rx_sa(sci: Sci, an: An, sa: &RxSa, ceiling: Ceiling, to: Writer) -> Wri
 }
 
 /// Writes spent keys of a snapshot.
-fn write_spent(role: Role, fingerprints: &Fingerprints, to: Writer) -> Writer
+fn write_spent(role: Role, fingerprints: &Fingerprints, to: RecordWriter) -> RecordWriter
     requires room { length to ≤ 5 }
     ensures { result ≡ to ++ fields_of (recorded.Spent role fingerprints.now) }
 {
@@ -105,7 +105,7 @@ fn write_spent(role: Role, fingerprints: &Fingerprints, to: Writer) -> Writer
 }
 
 /// Writes a new transmit association.
-fn write_tx_install(an: An, sa: &TxSa, start: Pn, to: Writer) -> Writer
+fn write_tx_install(an: An, sa: &TxSa, start: Pn, to: RecordWriter) -> RecordWriter
     requires room { length to ≤ 5 }
     ensures { result ≡ to ++ fields_of (recorded.TxInstall an sa.now start) }
 {
@@ -116,7 +116,7 @@ fn write_tx_install(an: An, sa: &TxSa, start: Pn, to: Writer) -> Writer
 }
 
 /// Writes a new receive association.
-fn write_rx_install(sci: Sci, an: An, sa: &RxSa, start: Pn, to: Writer) -> Writer
+fn write_rx_install(sci: Sci, an: An, sa: &RxSa, start: Pn, to: RecordWriter) -> RecordWriter
     requires room { length to ≤ 5 }
     ensures { result ≡ to ++ fields_of (recorded.RxInstall sci an sa.now start) }
 {
@@ -128,7 +128,7 @@ fn write_rx_install(sci: Sci, an: An, sa: &RxSa, start: Pn, to: Writer) -> Write
 }
 
 /// Writes a removed receive association.
-fn write_rx_remove(sci: Sci, an: An, to: Writer) -> Writer
+fn write_rx_remove(sci: Sci, an: An, to: RecordWriter) -> RecordWriter
     requires room { length to ≤ 5 }
     ensures { result ≡ to ++ fields_of (recorded.RxRemove sci an) }
 {
@@ -136,7 +136,7 @@ fn write_rx_remove(sci: Sci, an: An, to: Writer) -> Writer
 }
 
 /// Writes the raised ceiling of a transmit association.
-fn write_tx_ceiling(an: An, ceiling: Ceiling, to: Writer) -> Writer
+fn write_tx_ceiling(an: An, ceiling: Ceiling, to: RecordWriter) -> RecordWriter
     requires room { length to ≤ 5 }
     ensures { result ≡ to ++ fields_of (recorded.TxCeiling an ceiling) }
 {
@@ -144,7 +144,7 @@ fn write_tx_ceiling(an: An, ceiling: Ceiling, to: Writer) -> Writer
 }
 
 /// Writes the raised ceiling of a receive association.
-fn write_rx_ceiling(sci: Sci, an: An, ceiling: Ceiling, to: Writer) -> Writer
+fn write_rx_ceiling(sci: Sci, an: An, ceiling: Ceiling, to: RecordWriter) -> RecordWriter
     requires room { length to ≤ 5 }
     ensures { result ≡ to ++ fields_of (recorded.RxCeiling sci an ceiling) }
 {

@@ -12,7 +12,7 @@ use crate::SECTOR;
 use crate::format::Format;
 use crate::head::Head;
 use crate::reading::Reader;
-use crate::writing::Writer;
+use crate::writing::RecordWriter;
 use macs_config::Identity;
 
 /// The first octets of the sector of a head.
@@ -25,7 +25,7 @@ pub fn encode_head(head: &Head) -> [u8; SECTOR]
     ensures { result ≡ head_sector_of head.now }
 {
     let identity = head.identity();
-    Writer::new()
+    RecordWriter::new()
         .octets(&MARK)
         .u32(head.format().version())
         .u64(head.generation())

@@ -20,26 +20,26 @@ pub(crate) const NO_AN: u8 = 0xff;
 
 /// The octets written so far.
 #[derive(Drop)]
-pub(crate) struct Writer {
+pub(crate) struct RecordWriter {
     octets: ArrayVec<u8, SECTOR>,
 }
 
-impl Model for Writer {
+impl Model for RecordWriter {
     ghost Value = { List ℕ };
 
     ghost view = { λ w. w.octets.items };
 }
 
-impl Writer {
-    pub(crate) fn new() -> Writer
+impl RecordWriter {
+    pub(crate) fn new() -> RecordWriter
         ensures { result ≡ [] }
     {
-        Writer {
+        RecordWriter {
             octets: ArrayVec::new(),
         }
     }
 
-    pub(crate) fn octets(mut self, octets: &[u8]) -> Writer
+    pub(crate) fn octets(mut self, octets: &[u8]) -> RecordWriter
         requires room { length self + length octets.now ≤ 512 }
         ensures { result ≡ self ++ octets.now }
     {
@@ -47,7 +47,7 @@ impl Writer {
         self
     }
 
-    pub(crate) fn octet(self, octet: u8) -> Writer
+    pub(crate) fn octet(self, octet: u8) -> RecordWriter
         requires room { length self + 1 ≤ 512 }
         ensures { result ≡ self ++ octet ∷ [] }
     {
@@ -55,7 +55,7 @@ impl Writer {
     }
 
     /// A big-endian number of 4 octets.
-    pub(crate) fn u32(self, number: u32) -> Writer
+    pub(crate) fn u32(self, number: u32) -> RecordWriter
         requires room { length self + 4 ≤ 512 }
         ensures { result ≡ self ++ to_be_bytes w32 number }
     {
@@ -63,21 +63,21 @@ impl Writer {
     }
 
     /// A big-endian number of 8 octets.
-    pub(crate) fn u64(self, number: u64) -> Writer
+    pub(crate) fn u64(self, number: u64) -> RecordWriter
         requires room { length self + 8 ≤ 512 }
         ensures { result ≡ self ++ to_be_bytes w64 number }
     {
         self.octets(&number.to_be_bytes())
     }
 
-    pub(crate) fn flag(self, is: bool) -> Writer
+    pub(crate) fn flag(self, is: bool) -> RecordWriter
         requires room { length self + 1 ≤ 512 }
         ensures { result ≡ self ++ flag_octet is ∷ [] }
     {
         self.octet(u8::from(is))
     }
 
-    pub(crate) fn validate(self, validate: Validate) -> Writer
+    pub(crate) fn validate(self, validate: Validate) -> RecordWriter
         requires room { length self + 1 ≤ 512 }
         ensures { result ≡ self ++ validate_octet validate ∷ [] }
     {
@@ -87,14 +87,14 @@ impl Writer {
         })
     }
 
-    pub(crate) fn replay(self, replay: Replay) -> Writer
+    pub(crate) fn replay(self, replay: Replay) -> RecordWriter
         requires room { length self + 5 ≤ 512 }
         ensures { result ≡ self ++ replay_octets replay }
     {
         self.flag(replay.on).u32(replay.window)
     }
 
-    pub(crate) fn sci_mode(self, sci_mode: SciMode) -> Writer
+    pub(crate) fn sci_mode(self, sci_mode: SciMode) -> RecordWriter
         requires room { length self + 1 ≤ 512 }
         ensures { result ≡ self ++ mode_octet sci_mode ∷ [] }
     {
@@ -105,7 +105,7 @@ impl Writer {
         })
     }
 
-    pub(crate) fn encoding(self, encoding: Option<An>) -> Writer
+    pub(crate) fn encoding(self, encoding: Option<An>) -> RecordWriter
         requires room { length self + 1 ≤ 512 }
         ensures { result ≡ self ++ encoding_octet encoding ∷ [] }
     {
@@ -115,14 +115,14 @@ impl Writer {
         }
     }
 
-    pub(crate) fn an(self, an: An) -> Writer
+    pub(crate) fn an(self, an: An) -> RecordWriter
         requires room { length self + 1 ≤ 512 }
         ensures { result ≡ self ++ an ∷ [] }
     {
         self.octet(an.get())
     }
 
-    pub(crate) fn sci(self, sci: Sci) -> Writer
+    pub(crate) fn sci(self, sci: Sci) -> RecordWriter
         requires room { length self + 8 ≤ 512 }
         ensures written { result ≡ self ++ sci }
         ensures size { length result ≡ length self + 8 }
@@ -130,28 +130,28 @@ impl Writer {
         self.octets(&sci.get())
     }
 
-    pub(crate) fn start(self, start: Pn) -> Writer
+    pub(crate) fn start(self, start: Pn) -> RecordWriter
         requires room { length self + 4 ≤ 512 }
         ensures { result ≡ self ++ to_be_bytes w32 start }
     {
         self.u32(start.get())
     }
 
-    pub(crate) fn ceiling(self, ceiling: Ceiling) -> Writer
+    pub(crate) fn ceiling(self, ceiling: Ceiling) -> RecordWriter
         requires room { length self + 8 ≤ 512 }
         ensures { result ≡ self ++ to_be_bytes w64 ceiling }
     {
         self.u64(ceiling.get())
     }
 
-    pub(crate) fn offset(self, offset: Offset) -> Writer
+    pub(crate) fn offset(self, offset: Offset) -> RecordWriter
         requires room { length self + 1 ≤ 512 }
         ensures { result ≡ self ++ octets_of offset ∷ [] }
     {
         self.octet(offset.get())
     }
 
-    pub(crate) fn protection(self, protection: Protection) -> Writer
+    pub(crate) fn protection(self, protection: Protection) -> RecordWriter
         requires room { length self + 2 ≤ 512 }
         ensures { result ≡ self ++ protection_octets protection }
     {
@@ -159,7 +159,7 @@ impl Writer {
             .offset(protection.offset())
     }
 
-    pub(crate) fn role(self, role: Role) -> Writer
+    pub(crate) fn role(self, role: Role) -> RecordWriter
         requires room { length self + 1 ≤ 512 }
         ensures { result ≡ self ++ role_octet role ∷ [] }
     {
@@ -169,7 +169,7 @@ impl Writer {
         })
     }
 
-    pub(crate) fn fingerprints(self, fingerprints: &Fingerprints) -> Writer
+    pub(crate) fn fingerprints(self, fingerprints: &Fingerprints) -> RecordWriter
         requires room { length self + 481 ≤ 512 }
         ensures { result ≡ self ++ fingerprint_octets fingerprints.now }
     {

@@ -306,10 +306,10 @@ impl Rx {
 
     /// What holds of all receive channels.
     ///
-    /// Each association that exists has numbers in order: the next one minus the window is at most
-    /// the lowest acceptable, that at most the next, that at most the ceiling, and that at most
-    /// 2^32. It belongs to an existing channel. The channels ascend by SCI, and exactly those that
-    /// exist have counters.
+    /// For proofs, does nothing: each association that exists has numbers in order. The next one
+    /// minus the window is at most the lowest acceptable, that at most the next, that at most the
+    /// ceiling, and that at most 2^32. It belongs to an existing channel. The channels ascend by
+    /// SCI, and exactly those that exist have counters.
     pub fn facts(&self)
         ensures ordered { (sci : List ℕ) (an : ℕ)
             → AreOrdered (rx_side_of self.now) (ceilings_of self.now) sci an }

@@ -40,7 +40,7 @@ impl RecordSource for Standing {
 }
 
 impl Standing {
-    /// What holds of every snapshot: it represents the standing it was taken of, in 1 to 235
+    /// For proofs, does nothing: a snapshot represents the standing it was taken of, in 1 to 235
     /// records.
     pub(crate) fn facts(&self)
         ensures stands { snapshot_of this_edition self.now.config.identity

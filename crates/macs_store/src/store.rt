@@ -167,7 +167,7 @@ impl<D: SectorDisk> Store<D> {
         self.standing.ceilings.rx(sci, an)
     }
 
-    /// Exactly the associations that exist have a ceiling.
+    /// For proofs, does nothing: exactly the associations that exist have a ceiling.
     pub fn facts(&self)
         ensures { IsStanding (standing_in self.now) }
     {

@@ -243,8 +243,8 @@ impl Tx {
         self.counters.protected
     }
 
-    /// Each association has a next number, 1 to 2^32, that is not above its ceiling, which is at
-    /// most 2^32.
+    /// For proofs, does nothing: each association has a next number, 1 to 2^32, that is not above
+    /// its ceiling, which is at most 2^32.
     pub fn facts(&self)
         ensures { (an : ℕ) → AreOrdered (tx_side_of self.now) (ceilings_of self.now) an }
     {}

@@ -1,7 +1,7 @@
 use Rattle.std.proofs.Common.{◌++◌, ◌-◌, ◌∙◌, ap, arith, replicate}
 use Rattle.std.proofs.lemmas.List.{take-replicate}
 use Rattle.macs_record.specs.Sectors.{padded_sector}
-use Rattle.macs_record.proofs.writing.Writer.finish.Goals as goal
+use Rattle.macs_record.proofs.writing.RecordWriter.finish.Goals as goal
 
 pub returns : goal.returns
 returns c =

@@ -1,6 +1,6 @@
 use Rattle.std.proofs.Common.{ℕ, ap, arith, length, length-append}
 use Rattle.macs_record.proofs.Fingerprints.{written_next}
-use Rattle.macs_record.proofs.writing.Writer.fingerprints.Goals as goal
+use Rattle.macs_record.proofs.writing.RecordWriter.fingerprints.Goals as goal
 
 pub loop-item-preserved : goal.loop-item-preserved
 loop-item-preserved c = record {

@@ -1,6 +1,6 @@
 use Rattle.std.proofs.Common.{◌≡◌, ◌+◌, ◌*◌, ◌++◌, ◌∷◌, length, take}
 use Rattle.std.specs.List.{concat}
-use Rattle.macs_record.proofs.writing.Writer.fingerprints.Given as goal
+use Rattle.macs_record.proofs.writing.RecordWriter.fingerprints.Given as goal
 
 abbrev pub invariant-loop-item : goal.invariant-loop-item
 invariant-loop-item l = record {
