@@ -4,10 +4,10 @@
     python3 tools/killed_program.py [FOLDER]
 
 It takes the proved program (`tools/prove`), or with MACSECD_PROGRAM=PATH the one that is there, strace (Debian's package) and a folder for temporary files on a real disk, /tmp
-where none is named. Four runs of the program are killed: `format`, `apply` of four commands, `protect` of a capture of 400 frames of 1,500 octets at blocks of 32, which
-reserves packet numbers between frames that go out, and `show` of a file of format one, which brings it up to date. That file is what the program itself made, with version 1 in
-its head; `tools/older_program.py` has those of an older program. A run is first traced whole: which system calls it makes on its disk file, and the octets that it
-writes. Then it is made again for each of these calls, and killed as that call begins.
+where none is named. Five runs of the program are killed: `format`, `apply` of four commands, `protect` of a capture of 400 frames of 1,500 octets at blocks of 32, which
+reserves packet numbers between frames that go out, `show` of a file of format one, which brings it up to date, and a `relay` that reserves a block, is stopped, and rests. The
+file of format one is what the program itself made, with version 1 in its head; `tools/older_program.py` has those of an older program. A run is first traced whole: which
+system calls it makes on its disk file, and the octets that it writes. Then it is made again for each of these calls, and killed as that call begins.
 
 A kill alone loses nothing, since the operating system keeps what was written. So the power loss is made by hand: a sector that was written and not synced is left
 with one of six contents: the octets of the last sync, the last write, zeros, ones, an open gate, or the first half of the last write and the octets of the last
@@ -17,7 +17,8 @@ What is asserted of what `show` finds then:
   format   an endpoint as it was asked for, or none; then `format` makes one without `--over`, unless a sector was left that no `format` wrote;
   apply    the configuration after the commands of which a line was printed, or after those and one more;
   protect  the configuration as it was, and a next packet number above all that went out;
-  show     what it shows of the file of format two, to the octet, and a head of version 2 then.
+  show     what it shows of the file of format two, to the octet, and a head of version 2 then;
+  rest     the configuration as it was, and the next packet number as it was or that after the block, of which each is seen; as it was once the last line was printed.
 It prints how many kills and how many power losses there were.
 """
 
@@ -190,7 +191,7 @@ def kill_at_each(folder, name, start, words, judge, block=SECTOR):
     disk = os.path.join(folder, "disk")
 
     def begin():
-        for left in (disk, disk + ".new", os.path.join(folder, "out")):
+        for left in (disk, disk + ".new", os.path.join(folder, "out"), os.path.join(folder, "control")):
             if os.path.exists(left):
                 os.remove(left)
         if start:
@@ -282,13 +283,15 @@ def main():
         shutil.copyfile(at("new"), at("ready"))
         run("apply", at("ready"), at("commands"))
 
+        def following(shown):
+            return int(re.search(r"^tx 0 .* next (\d+)", shown, re.M)[1])
+
         def judge_protect(disk, _printed, _image):
             found = show(macsecd, disk)
             assert configuration(found.stdout) == after[-1], found
-            following = int(re.search(r"^tx 0 .* next (\d+)", found.stdout, re.M)[1])
             sent = numbers_in(at("out"))
             most.append(len(sent))
-            assert sent == sorted(set(sent)) and all(number < following for number in sent), (sent, following)
+            assert sent == sorted(set(sent)) and all(number < following(found.stdout) for number in sent), (sent, found)
 
         make_older(at("ready"), at("old"))
         shown = show(macsecd, at("ready")).stdout
@@ -298,10 +301,26 @@ def main():
             assert found.returncode == 0 and found.stdout == shown, found
             assert HEAD + b"\0\0\0\2" in open(disk, "rb").read(), disk
 
+        found_next = set()
+
+        def judge_rest(disk, printed, _image):
+            found = show(macsecd, disk)
+            assert configuration(found.stdout) == after[-1], found
+            found_next.add(following(found.stdout))
+            assert not printed or following(found.stdout) == following(shown), (printed, found)
+
+        def stopped_relay(disk):
+            """A relay that nothing comes to, which gets SIGTERM once it has reserved a block."""
+            ends = ["127.0.0.1:0", "127.0.0.1:9", "127.0.0.1:0", "127.0.0.1:9"]
+            later = '(sleep 0.5; kill -TERM $$) >/dev/null 2>&1 & exec "$@"'
+            return ["env", "--block-signal=TERM", "sh", "-c", later, "sh", macsecd, "relay", disk, *ends, "--wait", "10", "--control", at("control")]
+
         kill_at_each(folder, "format", None, lambda disk: [macsecd, "format", disk, SCI, BLOCK, BLOCK], judge_format)
         kill_at_each(folder, "apply", at("new"), lambda disk: [macsecd, "apply", disk, at("commands")], judge_apply)
         kill_at_each(folder, "protect", at("ready"), lambda disk: [macsecd, "protect", disk, at("frames"), at("out")], judge_protect)
         kill_at_each(folder, "migrate", at("old"), lambda disk: [macsecd, "show", disk], judge_migrated)
+        kill_at_each(folder, "rest", at("ready"), stopped_relay, judge_rest)
+        assert found_next == {following(shown), following(shown) + int(BLOCK)}, found_next
         print(f"protect: up to {max(most)} frames had gone out")
     finally:
         shutil.rmtree(folder)

@@ -53,6 +53,17 @@ HearsOf text hears.Silence left = left ≡ text
 HearsOf text hears.Ended left = (left ≡ text) × HasNoFeed text
 HearsOf text hears.Gone left = left ≡ text
 
+-- where no line is heard of a client that is there, no whole one is held
+abbrev pub HoldsNoLine : Hearing → List ℕ → Type 0
+HoldsNoLine hears.Silence held = HasNoFeed held
+HoldsNoLine hears.Ended held = HasNoFeed held
+HoldsNoLine other held = ⊤
+
+-- where no octets are taken, what is held stays
+abbrev pub HoldsSame : Taken → List ℕ → List ℕ → Type 0
+HoldsSame (Octets count) held kept = ⊤
+HoldsSame other held kept = kept ≡ held
+
 -- a line that is heard is one line
 abbrev pub IsOneLine : Hearing → Type 0
 IsOneLine (hears.Line line) = HasNoFeed line.items

@@ -29,7 +29,8 @@ pub struct Seat<S> {
 
 impl<S: Connection> Seat<S> {
     ghost use Rattle.std.specs.Prelude.{◌≡◌, [], true, false};
-    ghost use Rattle.macs_control.specs.Links.{Fills, GivesOctets, Hears, IsOneLine};
+    ghost use Rattle.macs_control.specs.Links.{Fills, GivesOctets, Hears, HoldsNoLine, HoldsSame};
+    ghost use Rattle.macs_control.specs.Links.{IsOneLine};
     ghost use Rattle.macs_control.specs.Seats.{client_of, connection_of, held_by};
 
     /// A client from which nothing was heard yet.
@@ -64,6 +65,7 @@ impl<S: Connection> Seat<S> {
         ensures client { client_of self.new ≡ client_of self.old }
         ensures fills { Fills (held_by self.old) (S.link (connection_of self.old)) result
             (held_by self.new) (S.link (connection_of self.new)) }
+        ensures same { HoldsSame result (held_by self.old) (held_by self.new) }
     {
         let room = self.inbox.room();
         if room == 0 {
@@ -86,6 +88,7 @@ impl<S: Connection> Seat<S> {
         ensures hears { Hears (held_by self.old) (S.link (connection_of self.old)) result
             (held_by self.new) (S.link (connection_of self.new)) }
         ensures whole { IsOneLine result }
+        ensures none { HoldsNoLine result (held_by self.new) }
     {
         if let Some(line) = self.inbox.next_line() {
             return Hearing::Line(line);

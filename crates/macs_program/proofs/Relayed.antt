@@ -1,6 +1,6 @@
 -- What a relay comes to, between two wires that are new; and how it is refused for an address.
-use Rattle.std.proofs.Common.{◌≡◌, ◌≢◌, ◌↔◌, ◌⊎◌, ◌∙◌, ℕ, Bool, true, List, Option, Result, Ok, Err, IfErr, IfOk, ap}
-use Rattle.std.proofs.Common.{inl, inr, refl, subst, sym}
+use Rattle.std.proofs.Common.{◌≡◌, ◌≢◌, ◌↔◌, ◌⊎◌, ◌∙◌, ℕ, Bool, true, false, List, Option, Result, Ok, Err, IfErr, IfOk}
+use Rattle.std.proofs.Common.{ap, inl, inr, refl, subst, sym}
 use Rattle.std.specs.Io.KnownBytes.{Appends}
 use Rattle.macs_disk.specs.Disk.{Disk}
 use Rattle.macs_disk.specs.FileDisks.{disk_in_file}
@@ -13,6 +13,9 @@ use Rattle.macs_edge.specs.declared.relaying.RelaySummary.{RelaySummary}
 use Rattle.macs_endpoint.specs.Value.{EndpointValue}
 use Rattle.macs_endpoint.specs.declared.fault.RefillFault.{RefillFault}
 use Rattle.macs_endpoint.specs.declared.fault.RefillFault.TheVariants as refill
+use Rattle.macs_endpoint.specs.declared.fault.RestFault.{RestFault}
+use Rattle.macs_endpoint.specs.declared.fault.RestFault.TheVariants as rest
+use Rattle.macs_journal.specs.declared.fault.JournalFault.TheVariants as journal
 use Rattle.macs_fields.specs.First.{IsFirst}
 use Rattle.macs_cli.specs.declared.words.action.WireEnds.{WireEnds}
 use Rattle.macs_cli.specs.declared.words.pace.Running.{Running}
@@ -22,11 +25,14 @@ use Rattle.macs_offline.proofs.Tried.{of-look}
 use Rattle.macs_cli.specs.Addresses.{AddressFaultHolds, SpellsBoth, address_faults}
 use Rattle.macs_offline.specs.Openings.{OpeningFails}
 use Rattle.macs_cli.specs.Failing.{failure_of_refill, failure_status}
-use Rattle.macs_program.specs.Relaying.{ComesTo, Course, IsAfterAddresses, IsOfRelay, IsRun, IsUnbound, RelayEndsIn}
-use Rattle.macs_program.specs.Relaying.{Reports, course_of, course_with, is_attended, new_wire}
+use Rattle.macs_program.specs.Relaying.{ComesTo, Course, Ends, IsAfterAddresses, IsOfRelay, IsRun, IsUnbound}
+use Rattle.macs_program.specs.Relaying.{RelayEndsIn, Reports, RestsIf, course_of, course_with, is_attended, new_wire}
+use Rattle.macs_program.specs.Relaying.{rest_result, summary_after}
 use Rattle.macs_program.specs.Summing.{relay_line}
 use Rattle.macs_program.specs.Tasks.{DoesRelay, IsRunIn}
 use Rattle.macs_cli.specs.declared.addresses.AddressFault.{AddressFault}
+use Rattle.macs_cli.specs.declared.failure.DiskFault.{DiskFault}
+use Rattle.macs_cli.specs.declared.failure.DiskFault.TheVariants as disk
 use Rattle.macs_cli.specs.declared.failure.Failure.{Failure}
 use Rattle.macs_cli.specs.declared.failure.Failure.TheVariants as failures
 use Rattle.macs_cli.specs.declared.failure.Failure.TheVariants.{Address}
@@ -35,41 +41,73 @@ use Rattle.macs_cli.specs.declared.status.Status.TheVariants as ends
 
 -- ---- wires that are new
 
-pub between-new : {D : Type 0} (disk_of : D → Disk) (turns all : ℕ) (old new : EndpointValue D)
+pub between-new : {D : Type 0} (disk_of : D → Disk) (turns : ℕ) (old new : EndpointValue D)
     (first second controlled common : WireState) (events : List DeskEvent) (answer : Result RelaySummary RefillFault)
-    → first ≡ new_wire → second ≡ new_wire → turns ≡ all
+    → first ≡ new_wire → second ≡ new_wire
     → IsAttended disk_of turns (relay_of old first second empty_lane empty_lane) events answer new controlled common
-    → IsAttended disk_of all (relay_of old new_wire new_wire empty_lane empty_lane) events answer new controlled common
-between-new disk_of turns all old new first second controlled common events answer one other same attended =
-    subst (λ (n : ℕ). IsAttended disk_of n (relay_of old new_wire new_wire empty_lane empty_lane) events answer new
-    controlled common) same
-    (subst (λ (w : WireState).
+    → IsAttended disk_of turns (relay_of old new_wire new_wire empty_lane empty_lane) events answer new controlled common
+between-new disk_of turns old new first second controlled common events answer one other attended =
+    subst (λ (w : WireState).
     IsAttended disk_of turns (relay_of old w new_wire empty_lane empty_lane) events answer new controlled common) one
     (subst (λ (w : WireState).
     IsAttended disk_of turns (relay_of old first w empty_lane empty_lane) events answer new controlled common) other
-    attended))
+    attended)
 
--- as many turns as the words request
-pub turns-so : {D : Type 0} (disk_of : D → Disk) (turns all : ℕ) (old : Relay D) (new : EndpointValue D)
-    (controlled common : WireState) (events : List DeskEvent) (answer : Result RelaySummary RefillFault)
-    → turns ≡ all → IsAttended disk_of turns old events answer new controlled common
-    → IsAttended disk_of all old events answer new controlled common
-turns-so disk_of turns all old new controlled common events answer same attended =
-    subst (λ (n : ℕ). IsAttended disk_of n old events answer new controlled common) same attended
+-- ---- ends
+
+module _ {D : Type 0} (disk_of : D → Disk) (is planned : Bool) (summary : RelaySummary) (old new : EndpointValue D)
+    (so : is ≡ planned) where
+  -- a planned end, with the result of its rest
+  pub ends-rested : (rested : Result (Unit {0}) Failure) (result : Result RelaySummary Failure) → is ≡ true
+      → RestsIf disk_of true old rested new → result ≡ summary_after summary rested
+      → Ends disk_of planned (Ok summary) old result new
+  ends-rested rested result true-is rests gives = (
+    rested,
+    subst (λ (b : Bool). RestsIf disk_of b old rested new) (sym true-is ∙ so) rests,
+    gives,
+  )
+
+  -- an end that is not planned
+  pub ends-unrested : is ≡ false → new ≡ old → Ends disk_of planned (Ok summary) old (Ok summary) new
+  ends-unrested false-is same = (
+    Ok tt,
+    subst (λ (b : Bool). RestsIf disk_of b old (Ok tt) new) (sym false-is ∙ so) (refl, same),
+    refl,
+  )
 
 -- ---- failures of a relay
 
-refill-behind : (fault : RefillFault) → IsAfterAddresses (failure_of_refill fault)
-refill-behind refill.Stopped = tt
-refill-behind refill.Busy = tt
-refill-behind refill.GenerationsSpent = tt
-refill-behind refill.Disk = tt
+abbrev IsOfDisk : Failure → Type 0
+IsOfDisk failure = (fault : DiskFault) × (failure ≡ failures.Disk fault)
 
-refill-status : (fault : RefillFault) → failure_status (failure_of_refill fault) ≡ ends.Disk
-refill-status refill.Stopped = refl
-refill-status refill.Busy = refl
-refill-status refill.GenerationsSpent = refl
-refill-status refill.Disk = refl
+of-refill : (fault : RefillFault) → IsOfDisk (failure_of_refill fault)
+of-refill refill.Stopped = (disk.Journal journal.Stopped, refl)
+of-refill refill.Busy = (disk.Journal journal.Disk, refl)
+of-refill refill.GenerationsSpent = (disk.Journal journal.GenerationsSpent, refl)
+of-refill refill.Disk = (disk.Journal journal.Disk, refl)
+
+of-rest : (answer : Result (Unit {0}) RestFault) (failure : Failure) → rest_result answer ≡ Err failure
+    → IsOfDisk failure
+of-rest (Ok done) failure is = absurd (let e = is in cc)
+of-rest (Err rest.Stopped) failure is = (disk.Journal journal.Stopped, let e = is in cc)
+of-rest (Err rest.Busy) failure is = absurd (let e = is in cc)
+of-rest (Err rest.GenerationsSpent) failure is = absurd (let e = is in cc)
+of-rest (Err rest.Disk) failure is = (disk.Journal journal.Disk, let e = is in cc)
+
+no-summary : (summary : RelaySummary) (rested : Result (Unit {0}) Failure) (failure : Failure)
+    → Err failure ≡ summary_after summary rested → rested ≡ Err failure
+no-summary summary (Ok done) failure is = absurd (let e = is in cc)
+no-summary summary (Err other) failure is = let same : other ≡ failure = (let e = is in cc) in ap Err same
+
+of-end : {D : Type 0} (disk_of : D → Disk) (planned : Bool) (answer : Result RelaySummary RefillFault)
+    (old : EndpointValue D) (failure : Failure) (new : EndpointValue D)
+    → Ends disk_of planned answer old (Err failure) new → IsOfDisk failure
+of-end disk_of planned (Err fault) old failure new (is, same) =
+    let e : failure ≡ failure_of_refill fault = cc in subst IsOfDisk (sym e) (of-refill fault)
+of-end disk_of true (Ok summary) old failure new (rested, (answer, call, gives), is) =
+    of-rest answer failure (sym gives ∙ no-summary summary rested failure is)
+of-end disk_of false (Ok summary) old failure new (rested, (gives, same), is) =
+    absurd (let e = sym gives ∙ no-summary summary rested failure is in cc)
 
 -- such failures are ones of a relay, and no wrong usage
 behind-of-relay : (failure : Failure) → IsAfterAddresses failure → IsOfRelay failure
@@ -179,11 +217,11 @@ module _ {D W : Type 0} (disk_of : D → Disk) (contents : W → Option (List �
       })
 
   -- between two new wires, it ran and was reported
-  pub frames-relayed : (answer : Result RelaySummary RefillFault) (new : EndpointValue D)
+  pub frames-relayed : (ended : Result RelaySummary Failure) (new : EndpointValue D)
       (controlled common : WireState)
       (result : Result Status Failure) (after : W)
-      → IsRun disk_of course (relay_of old new_wire new_wire empty_lane empty_lane) answer new controlled common
-      → Reports contents has_failed answer before result after
+      → IsRun disk_of course (relay_of old new_wire new_wire empty_lane empty_lane) ended new controlled common
+      → Reports contents has_failed ended before result after
       → DoesRelay disk_of contents has_failed course old before result new after
   frames-relayed (Ok summary) new controlled common (Ok status) after runs (printed, failed) = record {
     printed = (
@@ -204,14 +242,16 @@ module _ {D W : Type 0} (disk_of : D → Disk) (contents : W → Option (List �
     silent = λ other. absurd (other is);
     broken = λ output. broken;
   }
-  frames-relayed (Err fault) new controlled common result after runs (is, silent) =
+  frames-relayed (Err failure) new controlled common result after runs (is, silent) =
+      let (answer, relayed, run, ends) = runs in
+      let (fault, named) = of-end disk_of course.planned answer relayed failure new ends in
       subst (λ (r : Result Status Failure). DoesRelay disk_of contents has_failed course old before r new after)
       (sym is) (record {
         printed = tt;
-        ended = inr (record { controlled = controlled; common = common; ends = inl (fault, refl, runs) });
-        failed = refill-behind fault;
+        ended = inr (record { controlled = controlled; common = common; ends = inl runs });
+        failed = subst IsAfterAddresses (sym named) tt;
         silent = λ other. silent;
-        broken = λ output. absurd (let e = sym (refill-status fault) ∙ ap failure_status output in cc);
+        broken = λ output. absurd (let e = sym named ∙ output in cc);
       })
 
 -- a relay that runs as the words request

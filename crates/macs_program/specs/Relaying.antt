@@ -15,14 +15,19 @@ use Rattle.macs_edge.specs.Wires.{WireState}
 use Rattle.macs_edge.specs.declared.spared_sockets.SparedSocket.{SparedSocket}
 use Rattle.macs_edge.specs.declared.udp_wire.UdpWire.{UdpWire}
 use Rattle.macs_edge.specs.declared.relaying.RelaySummary.{RelaySummary}
+use Rattle.macs_endpoint.specs.Calls.{IsCall}
+use Rattle.macs_endpoint.specs.State.{Rested, Rests}
 use Rattle.macs_endpoint.specs.Value.{EndpointValue}
 use Rattle.macs_endpoint.specs.declared.fault.RefillFault.{RefillFault}
+use Rattle.macs_endpoint.specs.declared.fault.RestFault.{RestFault}
+use Rattle.macs_endpoint.specs.declared.fault.RestFault.TheVariants as rest
+use Rattle.macs_journal.specs.declared.fault.JournalFault.TheVariants as journal
 use Rattle.macs_cli.specs.declared.words.pace.Milliseconds.{Milliseconds}
 use Rattle.macs_cli.specs.declared.words.pace.Pace.{Pace}
 use Rattle.macs_cli.specs.declared.words.pace.Running.{Running}
 use Rattle.macs_cli.specs.declared.words.pace.Pace.TheVariants.{Sleepless, Waiting}
 use Rattle.macs_offline.specs.Openings.{IsEndpointIn}
-use Rattle.macs_cli.specs.Failing.{failure_of_refill}
+use Rattle.macs_cli.specs.Failing.{failure_of_journal, failure_of_refill}
 use Rattle.macs_offline.specs.Trying.{LookFails, TriesIn}
 use Rattle.macs_cli.specs.declared.failure.Failure.{Failure}
 use Rattle.macs_cli.specs.declared.failure.Failure.TheVariants as failures
@@ -60,11 +65,17 @@ abbrev pub limit_of : Pace → Option Milliseconds
 limit_of (Sleepless turns) = None
 limit_of (Waiting limit turns) = Some limit
 
--- the configuration of a relay: whether a desk attends it, its maximum number of turns, and what the desk, if there is
--- one, does over the events of the relay
+-- the end of a relay is planned if it was given no number of turns
+abbrev pub is_planned : Pace → Bool
+is_planned (Waiting limit None) = true
+is_planned pace = false
+
+-- the configuration of a relay: whether a desk attends it, its maximum number of turns, whether its end is planned, and
+-- what the desk, if there is one, does over the events of the relay
 pub record Course : Type 1 where
   pub attended : Bool
   pub turns : ℕ
+  pub planned : Bool
   pub Serves : List DeskEvent → Type 0
 
 -- a desk attends it if there is a control socket or a file of counters
@@ -74,7 +85,12 @@ is_attended running = is_some running.control || is_some running.metrics
 -- what the words request of the disk file with this name, attended or not, in the system `T`
 abbrev pub course_with : Type 0 → Bool → List ℕ → Running → Course
 course_with T attended disk running =
-    record { attended = attended; turns = turns_of running.pace; Serves = ServesOver T disk running }
+    record {
+      attended = attended;
+      turns = turns_of running.pace;
+      planned = is_planned running.pace;
+      Serves = ServesOver T disk running;
+    }
 
 -- what the words request
 abbrev pub course_of : Type 0 → List ℕ → Running → Course
@@ -89,11 +105,40 @@ IsRunBy false disk_of turns Serves old result endpoint controlled common =
 IsRunBy true disk_of turns Serves old result endpoint controlled common = (events : List DeskEvent)
     × IsAttended disk_of turns old events result endpoint controlled common × Serves events
 
--- a relay runs as configured: with or without a desk, for a number of turns, or until it ends
-abbrev pub IsRun : {D : Type 0} → (D → Disk) → Course → Relay D → Result RelaySummary RefillFault → EndpointValue D
+-- the result of a rest at the end of a relay: it fails if the disk does. If a command is pending, or the last
+-- generation is reached, the relay ends without a rest
+abbrev pub rest_result : Result (Unit {0}) RestFault → Result (Unit {0}) Failure
+rest_result (Err rest.Stopped) = Err (failure_of_journal journal.Stopped)
+rest_result (Err rest.Disk) = Err (failure_of_journal journal.Disk)
+rest_result answer = Ok tt
+
+-- after a planned end the endpoint rests, and after another end nothing is done
+abbrev pub RestsIf : {D : Type 0} → (D → Disk) → Bool → EndpointValue D → Result (Unit {0}) Failure → EndpointValue D
+    → Type 0
+RestsIf disk_of true old result new = (answer : Result (Unit {0}) RestFault)
+    × IsCall disk_of old Rests (Rested answer) new × (result ≡ rest_result answer)
+RestsIf disk_of false old result new = (result ≡ Ok tt) × (new ≡ old)
+
+-- the result of a relay whose rest had this result
+abbrev pub summary_after : RelaySummary → Result (Unit {0}) Failure → Result RelaySummary Failure
+summary_after summary (Ok done) = Ok summary
+summary_after summary (Err failure) = Err failure
+
+-- how a relay with this answer ends, whose end is planned or not: with its fault, and nothing more is done; or, after
+-- its last turn, with what is done at its end
+abbrev pub Ends : {D : Type 0} → (D → Disk) → Bool → Result RelaySummary RefillFault → EndpointValue D
+    → Result RelaySummary Failure → EndpointValue D → Type 0
+Ends disk_of planned (Err fault) old result new = (result ≡ Err (failure_of_refill fault)) × (new ≡ old)
+Ends disk_of planned (Ok summary) old result new = (rested : Result (Unit {0}) Failure)
+    × RestsIf disk_of planned old rested new × (result ≡ summary_after summary rested)
+
+-- a relay runs as configured, with or without a desk, for a number of turns, or until it ends; and this is its result
+abbrev pub IsRun : {D : Type 0} → (D → Disk) → Course → Relay D → Result RelaySummary Failure → EndpointValue D
     → WireState → WireState → Type 0
-IsRun disk_of course old result endpoint controlled common =
-    IsRunBy course.attended disk_of course.turns course.Serves old result endpoint controlled common
+IsRun {D} disk_of course old result endpoint controlled common =
+    (answer : Result RelaySummary RefillFault) × (relayed : EndpointValue D)
+    × IsRunBy course.attended disk_of course.turns course.Serves old answer relayed controlled common
+    × Ends disk_of course.planned answer relayed result endpoint
 
 -- a relay ends with this summary: of an endpoint that was opened on a disk in a file with this state, between two new
 -- wires
@@ -106,24 +151,32 @@ pub record ComesTo {F : Type 0} (file : F → FileState) (course : Course) (summ
   pub relayed : IsRun (disk_in_file file) course (relay_of old new_wire new_wire empty_lane empty_lane) (Ok summary) new
       controlled common
 
--- how a relay fails: with the failure of a step's fault; or it ends normally, and its line cannot be written
+-- how a relay fails: of a step or of its rest; or it ends normally, and its line cannot be written
 abbrev pub EndsRelay : {D : Type 0} → (D → Disk) → Course → Relay D → Failure → EndpointValue D → WireState
     → WireState → Type 0
 EndsRelay disk_of course old failure endpoint controlled common =
-    ((fault : RefillFault) × (failure ≡ failure_of_refill fault)
-    × IsRun disk_of course old (Err fault) endpoint controlled common)
+    IsRun disk_of course old (Err failure) endpoint controlled common
     ⊎ ((failure ≡ failures.Output)
     × (summary : RelaySummary) × IsRun disk_of course old (Ok summary) endpoint controlled common)
 
--- how the answer of a relay is reported: its summary is printed, or that print fails; or its fault is the failure, and
--- nothing is printed
-abbrev pub Reports : {W : Type 0} → (W → Option (List ℕ)) → (W → Bool) → Result RelaySummary RefillFault → W
+-- how the result of a relay is reported: its summary is printed, or that print fails; or it failed, and nothing is
+-- printed
+abbrev pub Reports : {W : Type 0} → (W → Option (List ℕ)) → (W → Bool) → Result RelaySummary Failure → W
     → Result Status Failure → W → Type 0
 Reports contents has_failed (Ok summary) before result after =
     IfOk result (λ status. Appends (contents before) (contents after) (relay_line summary) × (status ≡ ends.Done))
     × IfErr result (λ failure. (failure ≡ failures.Output) × (has_failed after ≡ true))
-Reports contents has_failed (Err fault) before result after =
-    (result ≡ Err (failure_of_refill fault)) × (after ≡ before)
+Reports contents has_failed (Err failure) before result after = (result ≡ Err failure) × (after ≡ before)
+
+-- A desk attends a relay at this pace, and this is `Heard` of its events; the relay ends, and is reported
+abbrev pub RelaysAttended : {D W : Type 0} → (D → Disk) → (List DeskEvent → Type 0) → (W → Option (List ℕ))
+    → (W → Bool) → Pace → Relay D → W → Result Status Failure → EndpointValue D → WireState → WireState → W → Type 0
+RelaysAttended {D} disk_of Heard contents has_failed pace old before result endpoint controlled common after =
+    (answer : Result RelaySummary RefillFault) × (events : List DeskEvent) × (relayed : EndpointValue D)
+    × (ended : Result RelaySummary Failure)
+    × IsAttended disk_of (turns_of pace) old events answer relayed controlled common
+    × Heard events × Ends disk_of (is_planned pace) answer relayed ended endpoint
+    × Reports contents has_failed ended before result after
 
 -- the failures that `relay` ends with: an address, the disk, a wire, the control socket, memory and standard output,
 -- but no capture, command file or input

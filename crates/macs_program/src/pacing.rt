@@ -2,7 +2,7 @@
 
 ghost use Rattle.std.specs.Prelude.{◌≡◌};
 ghost use Rattle.macs_program.specs.Attendants.{sleep_of};
-ghost use Rattle.macs_program.specs.Relaying.{left_out, limit_of, turns_of};
+ghost use Rattle.macs_program.specs.Relaying.{is_planned, left_out, limit_of, turns_of};
 
 use macs_cli::{Milliseconds, Pace};
 use macs_control::Wires as Sockets;
@@ -20,6 +20,21 @@ pub fn turns_of(pace: Pace) -> u64
             ..
         } => turns,
         Pace::Waiting { turns: None, .. } => u64::MAX,
+    }
+}
+
+/// Whether the end of a relay with this pace is planned: it was given no number of turns, so it ends
+/// on request.
+pub fn is_planned(pace: Pace) -> bool
+    ensures { result ≡ is_planned pace }
+{
+    match pace {
+        Pace::Waiting { turns: None, .. } => true,
+        Pace::Waiting {
+            turns: Some(_),
+            ..
+        }
+        | Pace::Sleepless { .. } => false,
     }
 }
 

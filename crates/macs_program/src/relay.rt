@@ -1,24 +1,21 @@
 //! `relay`: frames between two wires through an endpoint.
 
-ghost use Rattle.std.specs.Prelude.{◌≡◌, ◌≢◌, ◌⊎◌, ◌↔◌, Err, [], List, None, Result, true};
+ghost use Rattle.std.specs.Prelude.{◌≡◌, ◌≢◌, ◌⊎◌, ◌↔◌, Err, [], None, true};
 ghost use Rattle.std.specs.Prelude.{IfErr, IfOk};
 ghost use Rattle.std.specs.Io.KnownBytes.{Appends};
 ghost use Rattle.macs_control.specs.Serving.{ServesClients};
 ghost use Rattle.macs_control.specs.Unanswered.{entries_of};
-ghost use Rattle.macs_edge.specs.Attending.{IsAttended};
 ghost use Rattle.macs_edge.specs.Relaying.{empty_lane, relay_of};
 ghost use Rattle.macs_edge.specs.Wires.{WireState};
-ghost use Rattle.macs_edge.specs.declared.attending.DeskEvent.{DeskEvent};
 ghost use Rattle.macs_edge.specs.declared.relaying.RelaySummary.{RelaySummary};
-ghost use Rattle.macs_endpoint.specs.declared.fault.RefillFault.{RefillFault};
 ghost use Rattle.macs_fields.specs.First.{IsFirst};
 ghost use Rattle.macs_cli.specs.Addresses.{AddressFaultHolds, SpellsBoth, address_faults};
 ghost use Rattle.macs_cli.specs.Failing.{failure_status};
 ghost use Rattle.macs_offline.specs.Openings.{OpeningFails};
 ghost use Rattle.macs_offline.specs.Trying.{LookFails, TriesIn};
 ghost use Rattle.macs_cli.specs.declared.addresses.AddressFault.{AddressFault};
-ghost use Rattle.macs_program.specs.Relaying.{ComesTo, IsOfRelay, IsUnbound, RelayEndsIn, Reports};
-ghost use Rattle.macs_program.specs.Relaying.{course_of, is_attended, new_wire, turns_of};
+ghost use Rattle.macs_program.specs.Relaying.{ComesTo, IsOfRelay, IsUnbound, RelayEndsIn};
+ghost use Rattle.macs_program.specs.Relaying.{RelaysAttended, course_of, is_attended, new_wire};
 ghost use Rattle.macs_program.specs.Summing.{relay_line};
 ghost use Rattle.macs_program.specs.Tasks.{DoesRelay};
 
@@ -60,12 +57,10 @@ fn serve<D: SectorDisk, C: Clients, M: Metrics, S: Overruns + KeyNotes + Time, W
     requires none { entries_of desk.old.unanswered ≡ [] }
     requires controlled { ⟦<UdpWire<Global, UdpSocket> as Wire>⟧.state wires.controlled ≡ new_wire }
     requires common { ⟦<UdpWire<Global, UdpSocket> as Wire>⟧.state wires.common ≡ new_wire }
-    ensures { (answer : Result RelaySummary RefillFault) × (events : List DeskEvent)
-        × (controlled common : WireState) × IsAttended D.disk (turns_of pace)
-        (relay_of endpoint.old new_wire new_wire empty_lane empty_lane) events answer endpoint.new
-        controlled common
-        × ServesClients C.does desk.old events desk.new
-        × Reports W.contents W.failed answer out.old result out.new }
+    ensures { (controlled common : WireState) × RelaysAttended D.disk
+        (λ events. ServesClients C.does desk.old events desk.new) W.contents W.failed pace
+        (relay_of endpoint.old new_wire new_wire empty_lane empty_lane) out.old result endpoint.new
+        controlled common out.new }
 {
     clients_are_served::<D, C, M, S>();
     wires.relay(endpoint, desk, pace, out)

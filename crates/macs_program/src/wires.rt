@@ -1,17 +1,13 @@
 //! The wires of a relay: two UDP sockets.
 
-ghost use Rattle.std.specs.Prelude.{◌≡◌, ◌⊎◌, IfErr, IfOk, List, Result};
+ghost use Rattle.std.specs.Prelude.{◌≡◌, ◌⊎◌, IfErr, IfOk};
 ghost use Rattle.macs_commands.specs.InTurn.{InTurn};
-ghost use Rattle.macs_edge.specs.Attending.{IsAttended};
 ghost use Rattle.macs_edge.specs.Relaying.{empty_lane, relay_of};
 ghost use Rattle.macs_edge.specs.UdpWires.{peer_of, udp_wire_state};
 ghost use Rattle.macs_edge.specs.Wires.{WireState};
-ghost use Rattle.macs_edge.specs.declared.attending.DeskEvent.{DeskEvent};
-ghost use Rattle.macs_edge.specs.declared.relaying.RelaySummary.{RelaySummary};
-ghost use Rattle.macs_endpoint.specs.declared.fault.RefillFault.{RefillFault};
-ghost use Rattle.macs_program.specs.Relaying.{IsSparedAt, Reports, SparesAt, new_wire, turns_of};
+ghost use Rattle.macs_program.specs.Relaying.{IsSparedAt, RelaysAttended, SparesAt, new_wire};
 
-use crate::pacing::{left_out, turns_of};
+use crate::pacing::left_out;
 use crate::relaying::relay_frames;
 use macs_cli::{Addresses, Failure, Pace, Status, Stream, WireAddresses};
 use macs_control::{Wires as Sockets, ask_for_buffer};
@@ -107,33 +103,20 @@ fn relay_spared<D: SectorDisk, K: Desk<D, SparedWire, SparedWire>, W: Stream>(
 ) -> Result<Status, Failure>
     requires controlled { IsSparedAt pace controlled }
     requires common { IsSparedAt pace common }
-    ensures { (answer : Result RelaySummary RefillFault) × (events : List DeskEvent)
-        × (left right : WireState) × IsAttended D.disk (turns_of pace)
+    ensures { (left right : WireState) × RelaysAttended D.disk
+        (λ events. InTurn K.hears desk.old events desk.new) W.contents W.failed pace
         (relay_of endpoint.old (udp_wire_state controlled) (udp_wire_state common) empty_lane
-        empty_lane) events answer endpoint.new left right
-        × InTurn K.hears desk.old events desk.new
-        × Reports W.contents W.failed answer out.old result out.new }
+        empty_lane) out.old result endpoint.new left right out.new }
 {
-    relay_frames(
-        endpoint,
-        &mut controlled,
-        &mut common,
-        desk,
-        turns_of(pace),
-        out,
-    )
+    relay_frames(endpoint, &mut controlled, &mut common, desk, pace, out)
 }
 
 impl Wires {
-    ghost use Rattle.std.specs.Prelude.{◌≡◌, IfSome, List, Result};
-    ghost use Rattle.macs_edge.specs.Attending.{IsAttended};
+    ghost use Rattle.std.specs.Prelude.{◌≡◌, IfSome};
     ghost use Rattle.macs_commands.specs.InTurn.{InTurn};
     ghost use Rattle.macs_edge.specs.Relaying.{empty_lane, relay_of};
     ghost use Rattle.macs_edge.specs.Wires.{WireState};
-    ghost use Rattle.macs_edge.specs.declared.attending.DeskEvent.{DeskEvent};
-    ghost use Rattle.macs_edge.specs.declared.relaying.RelaySummary.{RelaySummary};
-    ghost use Rattle.macs_endpoint.specs.declared.fault.RefillFault.{RefillFault};
-    ghost use Rattle.macs_program.specs.Relaying.{Reports, new_wire, turns_of};
+    ghost use Rattle.macs_program.specs.Relaying.{RelaysAttended, new_wire};
 
     /// Their sockets.
     pub fn sockets(&self) -> Sockets
@@ -148,7 +131,8 @@ impl Wires {
         Sockets { controlled, common }
     }
 
-    /// Relays frames between them at this pace, attended by a desk, and prints what became of them.
+    /// Relays frames between them at this pace, attended by a desk; after a planned end the endpoint
+    /// rests. Prints what became of them.
     pub fn relay<D: SectorDisk, K: Desk<D, SparedWire, SparedWire>, W: Stream>(
         self,
         endpoint: &mut Endpoint<D>,
@@ -159,12 +143,10 @@ impl Wires {
         requires controlled { ⟦<UdpWire<Global, UdpSocket> as Wire>⟧.state self.controlled
             ≡ new_wire }
         requires common { ⟦<UdpWire<Global, UdpSocket> as Wire>⟧.state self.common ≡ new_wire }
-        ensures { (answer : Result RelaySummary RefillFault) × (events : List DeskEvent)
-            × (controlled common : WireState) × IsAttended D.disk (turns_of pace)
-            (relay_of endpoint.old new_wire new_wire empty_lane empty_lane) events answer
-            endpoint.new controlled common
-            × InTurn K.hears desk.old events desk.new
-            × Reports W.contents W.failed answer out.old result out.new }
+        ensures { (controlled common : WireState) × RelaysAttended D.disk
+            (λ events. InTurn K.hears desk.old events desk.new) W.contents W.failed pace
+            (relay_of endpoint.old new_wire new_wire empty_lane empty_lane) out.old result
+            endpoint.new controlled common out.new }
     {
         let Wires { controlled, common } = self;
         let controlled = spared(controlled, pace);

@@ -1,6 +1,7 @@
 //! The device calls of the script, in their order, and how often each part of them is stopped.
 
 use super::cutting::{Kind, Stop, play_to};
+use super::judging::judge_rested;
 use super::stops::Behind::{Formats, Loses, Opens, StopsOpenings};
 use super::stops::{Behind, Totals, stop_at_each};
 use std::alloc::Global;
@@ -37,8 +38,19 @@ const COMPACTED: u64 = COMPACTION + 257 + 1 + 7 + 1 + 1 + 1;
 /// The command after it is kept.
 const KEPT: u64 = COMPACTED + PIECE;
 
-/// The script ends: six ceilings were raised.
-const END: u64 = KEPT + 6 * PIECE;
+/// The rest begins: six ceilings were raised.
+const REST: u64 = KEPT + 6 * PIECE;
+
+/// How many gates it closes: those of the first area, all of whose slots were used. Each is read
+/// before.
+const CLOSED: u64 = 257;
+
+/// The gates are closed.
+const ALL_CLOSED: u64 = REST + 2 * CLOSED;
+
+/// The script ends: a sync, the body of the head and of six records, a sync, the head gate and a
+/// sync.
+const END: u64 = ALL_CLOSED + 1 + 7 + 1 + 1 + 1;
 
 /// Each device call from one to before another is a stop: so many stops, power losses and stopped
 /// openings.
@@ -76,7 +88,7 @@ fn the_script_has_so_many_device_calls(rt: HostRuntime) {
         },
     );
     assert!(rt; is_cut);
-    let (is_cut, _) = play_to(
+    let (is_cut, whole) = play_to(
         &rt,
         rt.alloc(),
         Stop {
@@ -85,6 +97,7 @@ fn the_script_has_so_many_device_calls(rt: HostRuntime) {
         },
     );
     assert!(rt; !is_cut);
+    judge_rested(&rt, whole);
 }
 
 /// So many calls of a format from one on are stopped, at which two bodies are pending: the reads of
@@ -181,6 +194,51 @@ fn a_compaction_is_stopped_at_each_call(rt: HostRuntime) {
         openings: 0,
     };
     expect(&rt, rt.alloc(), [COMPACTION, COMPACTED], Loses, totals);
+}
+
+/// So many gates, from one on, that are read and closed.
+fn expect_gates(rt: &impl Abort, alloc: Global, first: u64, gates: u64, losses: u64) {
+    assert!(rt; first < CLOSED);
+    assert!(rt; gates < CLOSED);
+    let from = REST + 2 * first;
+    let totals = Totals {
+        stops: 4 * gates,
+        losses,
+        openings: 0,
+    };
+    expect(rt, alloc, [from, from + 2 * gates], Loses, totals);
+}
+
+/// As many gates are pending as were closed: where the first is read nothing is, where the third is
+/// two are. Where a write fills its sector, that is one more.
+#[test]
+fn the_start_of_a_rest_is_stopped_at_each_call(rt: HostRuntime) {
+    let dead = 2 * (1 + 6 + 36);
+    let filled = (1 + 6) + (6 + 36) + (36 + 6);
+    expect_gates(&rt, rt.alloc(), 0, 86, dead + filled + 83 * 24);
+}
+
+#[test]
+fn further_gates_of_a_rest_are_stopped_at_each_call(rt: HostRuntime) {
+    expect_gates(&rt, rt.alloc(), 86, 86, 86 * 24);
+}
+
+#[test]
+fn the_last_gates_of_a_rest_are_stopped_at_each_call(rt: HostRuntime) {
+    expect_gates(&rt, rt.alloc(), 172, 85, 85 * 24);
+}
+
+/// The gates are pending at the first sync. Then bodies are, as in a compaction.
+#[test]
+fn the_end_of_a_rest_is_stopped_at_each_call(rt: HostRuntime) {
+    let dead = 6 + 1 + 6 + 36 + 4 * 6 + 6 + 1 + 6;
+    let filled = 6 + 6 + 36 + 5 * 6 + 6 + 6 + 6;
+    let totals = Totals {
+        stops: 2 * (END - ALL_CLOSED),
+        losses: dead + filled,
+        openings: 0,
+    };
+    expect(&rt, rt.alloc(), [ALL_CLOSED, END], Loses, totals);
 }
 
 #[test]

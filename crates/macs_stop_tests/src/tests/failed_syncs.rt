@@ -30,7 +30,7 @@ const PARTS: [Part; 12] = [
     Part::Keeps(Asked::Removes(0)),
     Part::Spends(Asked::Installs(0, 0)),
     Part::Passes(4),
-    Part::Rests,
+    Part::Settles,
 ];
 
 /// The command that the power loss cuts short.

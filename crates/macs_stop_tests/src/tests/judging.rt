@@ -122,6 +122,21 @@ pub(super) fn judge_opened(rt: &impl Abort, cut: Cut) {
     judge(rt, disk, &known);
 }
 
+/// The power goes after a rest. The disk is opened twice, and each time exactly the next packet
+/// numbers are found: an opening reserves none.
+pub(super) fn judge_rested(rt: &impl Abort, cut: Cut) {
+    let Cut { mut disk, known } = cut;
+    assert!(rt; pending(rt, &disk).is_empty());
+    for _ in 0..2_u32 {
+        disk.crash();
+        let endpoint = opened(rt, disk);
+        assert!(rt; known.is_before(endpoint.config()));
+        assert!(rt; known.passed.is_followed(rt, &endpoint));
+        disk = endpoint.into_disk();
+    }
+    judge(rt, disk, &known);
+}
+
 /// The disk is formatted as it is, unless the format that was cut short was done. That leaves
 /// nothing pending. Then the power goes.
 pub(super) fn judge_formatted(rt: &impl Abort, cut: Cut) {

@@ -90,6 +90,23 @@ impl Passed {
         self.sends_above(rt, endpoint) && self.receives_above(rt, endpoint)
     }
 
+    /// Whether the next packet numbers of an endpoint are the first above those that passed, on
+    /// both sides.
+    pub(super) fn is_followed<D: SectorDisk>(
+        &self,
+        rt: &impl Abort,
+        endpoint: &Endpoint<D>,
+    ) -> bool {
+        let encoding = endpoint.config().encoding().expect(rt, "an encoding association");
+        let place = place_of_key(rt, endpoint.config());
+        assert!(rt; place < self.sent.len());
+        let next = endpoint.next_number(encoding).expect(rt, "a next number");
+        let an = An::new(PEER_NUMBER).expect(rt, "association number");
+        let numbers = endpoint.numbers(PEER, an).expect(rt, "the numbers of the peer");
+        next == u64::from(self.sent[place]).saturating_add(1)
+            && numbers.next == u64::from(self.delivered).saturating_add(1)
+    }
+
     fn sends_above<D: SectorDisk>(&self, rt: &impl Abort, endpoint: &Endpoint<D>) -> bool {
         for an in An::all() {
             if let Some(association) = endpoint.config().tx(an) {

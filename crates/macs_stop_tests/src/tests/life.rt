@@ -5,7 +5,7 @@ use super::known::Known;
 use super::script::{Part, REFUSED, SCRIPT, command_of, window_of};
 use macs_config::Command;
 use macs_disk::SectorDisk;
-use macs_endpoint::{CommandFault, Endpoint, ProtectFault, Step, StepFault};
+use macs_endpoint::{CommandFault, Endpoint, ProtectFault, RestFault, Step, StepFault};
 use macs_frame::{FrameBuf, Pn};
 use macs_rxsc::{Kind, Verdict};
 use macs_txsc::TxFault;
@@ -42,6 +42,7 @@ pub(super) fn take<D: SectorDisk>(
         Part::Spends(asked) => spend(rt, endpoint, command_of(rt, asked)),
         Part::Passes(frames) => pass(rt, endpoint, known, frames),
         Part::Windows(count) => keep_windows(rt, endpoint, known, count),
+        Part::Settles => settle(rt, endpoint),
         Part::Rests => rest(rt, endpoint),
     }
 }
@@ -112,8 +113,19 @@ fn keep_windows<D: SectorDisk>(
     Ok(())
 }
 
-/// Steps until there is nothing to do.
+/// The next packet numbers become the ceilings.
 fn rest<D: SectorDisk>(rt: &impl Abort, endpoint: &mut Endpoint<D>) -> Result<(), Stopped> {
+    match endpoint.rest() {
+        Ok(()) => Ok(()),
+        Err(fault) => {
+            assert!(rt; fault == RestFault::Disk);
+            Err(Stopped)
+        }
+    }
+}
+
+/// Steps until there is nothing to do.
+fn settle<D: SectorDisk>(rt: &impl Abort, endpoint: &mut Endpoint<D>) -> Result<(), Stopped> {
     for _ in 0..MOST_STEPS {
         if let Step::Idle = step(rt, endpoint)? {
             return Ok(());

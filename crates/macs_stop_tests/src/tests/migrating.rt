@@ -79,6 +79,7 @@ fn make_older(rt: &impl Abort, disk: &mut MemDisk, at: u64) {
 fn older_part(part: Part) -> Part {
     match part {
         Part::Keeps(Asked::Installs(1, 1)) => Part::Keeps(Asked::Installs(1, 2)),
+        Part::Rests => Part::Settles, // It ends without a rest.
         _ => part,
     }
 }

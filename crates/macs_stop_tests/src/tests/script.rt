@@ -28,6 +28,8 @@ pub(super) enum Part {
     /// `SetReplay` is submitted and kept so often, with windows from 1 on.
     Windows(u32),
     /// Steps are made until there is nothing to do.
+    Settles,
+    /// The end is planned: the next packet numbers become the ceilings.
     Rests,
 }
 
@@ -46,7 +48,7 @@ pub(super) enum Asked {
 
 /// The parts, in their order. All 256 slots of the first area are used after the 239th `SetReplay`,
 /// so that the 240th starts the journal over.
-pub(super) const SCRIPT: [Part; 12] = [
+pub(super) const SCRIPT: [Part; 13] = [
     Part::Keeps(Asked::AddsPeer),
     Part::Keeps(Asked::InstallsPeer),
     Part::Keeps(Asked::Installs(0, 0)),
@@ -58,6 +60,7 @@ pub(super) const SCRIPT: [Part; 12] = [
     Part::Spends(Asked::Installs(0, 0)),
     Part::Windows(240),
     Part::Passes(6),
+    Part::Settles,
     Part::Rests,
 ];
 

@@ -113,7 +113,7 @@ const TWO: &[Step] = &[
     Attend(Attended {
         disk: "story-two/disk",
         broken: Nothing,
-        turns: "2000",
+        pace: ["--turns", "2000"],
         control: "story-two/control",
         clients: &[
             Client {
@@ -151,7 +151,7 @@ const FORMAT: Step = Run(
 const WAITED: Attended = Attended {
     disk: "story-waits/disk",
     broken: Nothing,
-    turns: "200",
+    pace: ["--turns", "200"],
     control: "story-waits/control",
     clients: &[Client {
         lines: "set-replay on 9\n",
@@ -255,7 +255,7 @@ const PARENT: &[Step] = &[
     Attend(Attended {
         disk: "story-parent/disk",
         broken: Nothing,
-        turns: "5",
+        pace: ["--turns", "5"],
         control: "story-parent/control",
         clients: &[],
         parent: "story-parent/notify",
@@ -268,7 +268,7 @@ const PARENT: &[Step] = &[
     Attend(Attended {
         disk: "story-parent/disk",
         broken: Write(34),
-        turns: "200",
+        pace: ["--turns", "200"],
         control: "story-parent/control",
         clients: &[Client {
             lines: "set-replay on 9\n",
@@ -285,4 +285,89 @@ const PARENT: &[Step] = &[
 #[test]
 fn a_parent_is_told_when_a_relay_begins_and_ends(rt: HostRuntime) -> Result<(), Fail> {
     play(&rt, rt.alloc(), "story-parent", PARENT)
+}
+
+/// The commands of an endpoint that sends, whose first frame would have the number 5: with blocks of
+/// 4 packet numbers 1 to 4 are reserved.
+const SENDER: &str = "\
+[[command]]
+do = \"tx-install\"
+an = 0
+key = \"5a1c7e93d04b26f8a97d31e4026fb85c\"
+start = 1
+confidential = true
+offset = 0
+
+[[command]]
+do = \"tx-use\"
+an = 0
+";
+
+/// A relay that is stopped once it has reserved the next block, and has kept a command.
+const STOPPED: Attended = Attended {
+    disk: "story-rests/disk",
+    broken: Nothing,
+    pace: ["--wait", "10"],
+    control: "story-rests/control",
+    clients: &[Client {
+        lines: "set-replay on 9\n",
+        later: "stop\n",
+        told: &[OK, Text("end 0\n")],
+    }],
+    parent: "",
+    seen: "",
+    outcome: NOTHING,
+};
+
+/// As after the commands.
+const NOT_SKIPPED: &str = "\
+sci 12153524c0895e81
+blocks tx 4 rx 4
+validate strict
+replay on window 9
+sci-mode explicit
+encoding 0
+tx 0 confidential offset 0 next 5
+spent tx 1 rx 0
+";
+
+/// The block that the relay reserved is skipped.
+const SKIPPED: &str = "\
+sci 12153524c0895e81
+blocks tx 4 rx 4
+validate strict
+replay on window 9
+sci-mode explicit
+encoding 0
+tx 0 confidential offset 0 next 9
+spent tx 1 rx 0
+";
+
+/// A planned end skips nothing, one after a number of turns does. An opening writes 33 times, the
+/// reservation and the command twice each: the 38th write is the first of the rest.
+const RESTS: &[Step] = &[
+    Run(
+        &["format", "story-rests/disk", "12153524c0895e81", "4", "4"],
+        Done("formatted\n"),
+    ),
+    Step::Text("story-rests/sender.toml", SENDER),
+    Run(
+        &["apply", "story-rests/disk", "story-rests/sender.toml"],
+        Done("1 ok\n2 ok\n"),
+    ),
+    Attend(STOPPED),
+    Run(&["show", "story-rests/disk"], Done(NOT_SKIPPED)),
+    Attend(Attended {
+        broken: Write(38),
+        outcome: Disk("macsecd: disk\n"),
+        ..STOPPED
+    }),
+    Run(&["show", "story-rests/disk"], Done(SKIPPED)),
+    Attend(STOPPED),
+    Run(&["show", "story-rests/disk"], Done(SKIPPED)),
+];
+
+#[test]
+fn a_planned_end_skips_no_packet_number(rt: HostRuntime) -> Result<(), Fail> {
+    play(&rt, rt.alloc(), "story-rests", RESTS)
 }

@@ -1,23 +1,22 @@
-use Rattle.std.proofs.Common.{Ok, Err, ap, refl}
-use Rattle.macs_edge.specs.Relaying.{empty_lane, relay_of}
-use Rattle.macs_offline.proofs.NoneWaits.{attended-not-busy}
+use Rattle.std.proofs.Common.{◌∙◌, Ok, Err, ap, refl}
+use Rattle.std.proofs.lemmas.Result.{err_from_is_err_and}
 use Rattle.macs_program.proofs.relaying.relay_frames.Goals as goal
 
-pub failure_of_refill-requires : goal.failure_of_refill-requires
-failure_of_refill-requires g c =
-    let (events, attended, heard) = c.in-Err.ensures.attended in
-    attended-not-busy g.D.SectorDisk.disk c.args.turns
-    (relay_of c.args.endpoint.now (g.P.Wire.state c.args.controlled.now) (g.C.Wire.state c.args.common.now) empty_lane
-    empty_lane)
-    events c.in-Err.fault c.attend.new.endpoint (g.P.Wire.state c.attend.new.controlled)
-    (g.C.Wire.state c.attend.new.common) attended
+pub returns-in_err-summary : goal.returns-in_err-summary
+returns-in_err-summary g c =
+    let (answer, events, relayed, attended, heard, ends) = c.relay_to_end.ensures in
+    let p = err_from_is_err_and c.from_residual.result c.from_residual.ensures.1 in
+    (answer, events, relayed, c.relay_to_end.result, attended, heard, ends, rw c.in_err-summary.was (p.1 ∙ ap Err p.2, refl))
 
-pub returns-in-Ok : goal.returns-in-Ok
-returns-in-Ok g c =
-    let (events, attended, heard) = c.in-Ok.ensures.attended in
-    (Ok c.in-Ok.summary, events, attended, heard, (c.print_summary.ensures.printed, c.print_summary.ensures.failed))
-
-pub returns-in-Err : goal.returns-in-Err
-returns-in-Err g c =
-    let (events, attended, heard) = c.in-Err.ensures.attended in
-    (Err c.in-Err.fault, events, attended, heard, (ap Err c.failure_of_refill.ensures, refl))
+pub returns : goal.returns
+returns g c =
+    let (answer, events, relayed, attended, heard, ends) = c.relay_to_end.ensures in (
+      answer,
+      events,
+      relayed,
+      c.relay_to_end.result,
+      attended,
+      heard,
+      ends,
+      rw c.in_ok-summary.was (c.print_summary.ensures.printed, c.print_summary.ensures.failed),
+    )

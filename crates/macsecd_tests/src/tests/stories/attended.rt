@@ -36,7 +36,8 @@ pub struct Attended {
     pub disk: &'static str,
     /// What fails of the disk file.
     pub broken: Broken,
-    pub turns: &'static str,
+    /// The two words that say how long it relays, and whether it sleeps.
+    pub pace: [&'static str; 2],
     pub control: &'static str,
     pub clients: &'static [Client],
     /// The name of the parent's socket, and what the parent sees: empty where there is none.
@@ -100,8 +101,8 @@ fn run<'a>(
         "127.0.0.1:9",
         "127.0.0.1:0",
         "127.0.0.1:9",
-        "--turns",
-        attended.turns,
+        attended.pace[0],
+        attended.pace[1],
         "--control",
         attended.control,
     ];

@@ -12,17 +12,22 @@ returns-in_err-desk g c =
 
 pub returns : goal.returns
 returns g c =
-    let (answer, events, controlled, common, attended, served, reported) = c.serve-result.ensures in
-    frames-relayed _ _ _ (course_with g.row.T.Denot true c.args.self.disk.now c.args.self.running) _ _ answer _
-    controlled common _
-    _ (
-      events,
-      attended,
-      record {
-        sockets = c.sockets.result;
-        before = c.in_ok-desk.desk;
-        after = c.serve-result.new.desk;
-        is_new = c.in_ok-desk.ensures.new;
-        serves = served;
-      },
+    let (controlled, common, run) = c.serve-result.ensures in
+    let (answer, events, relayed, ended, attended, served, ends, reported) = run in
+    frames-relayed _ _ _ (course_with g.row.T.Denot true c.args.self.disk.now c.args.self.running) _ _ ended _
+    controlled common _ _ (
+      answer,
+      relayed,
+      (
+        events,
+        attended,
+        record {
+          sockets = c.sockets.result;
+          before = c.in_ok-desk.desk;
+          after = c.serve-result.new.desk;
+          is_new = c.in_ok-desk.ensures.new;
+          serves = served;
+        },
+      ),
+      ends,
     ) reported

@@ -6,8 +6,13 @@ use Rattle.macs_program.proofs.relay.RelayWires.leave_alone.Goals as goal
 
 pub returns : goal.returns
 returns g c =
-    let (answer, events, controlled, common, attended, heard, reported) = c.relay.ensures in
-    frames-relayed _ _ _ (course_with g.row.T.Denot false c.args.self.disk.now c.args.self.running) _ _ answer _
-    controlled common _ _
-    (unattended-relayed g.D.SectorDisk.disk (λ nobody. None) _ _ _ _ events answer _ controlled common attended heard)
-    reported
+    let (controlled, common, run) = c.relay.ensures in
+    let (answer, events, relayed, ended, attended, heard, ends, reported) = run in
+    frames-relayed _ _ _ (course_with g.row.T.Denot false c.args.self.disk.now c.args.self.running) _ _ ended _
+    controlled common _ _ (
+      answer,
+      relayed,
+      unattended-relayed g.D.SectorDisk.disk (λ nobody. None) _ _ _ _ events answer relayed controlled common attended
+          heard,
+      ends,
+    ) reported

@@ -1,16 +1,22 @@
-use Rattle.std.proofs.Common.{◌∙◌, refl}
+use Rattle.std.proofs.Common.{◌∙◌}
 use Rattle.macs_program.proofs.Relayed.{between-new}
 use Rattle.macs_program.proofs.wires.Wires.relay.Goals as goal
 
 pub returns : goal.returns
 returns g c =
-    let (answer, events, left, right, attended, heard, reported) = c.relay_spared.ensures in (
-      answer,
-      events,
+    let (left, right, run) = c.relay_spared.ensures in
+    let (answer, events, relayed, ended, attended, heard, ends, reported) = run in (
       left,
       right,
-      between-new _ _ _ _ _ _ _ _ _ _ _ (c.spared-controlled.ensures.state ∙ c.requires.controlled)
-          (c.spared-common.ensures.state ∙ c.requires.common) refl attended,
-      heard,
-      reported,
+      (
+        answer,
+        events,
+        relayed,
+        ended,
+        between-new _ _ _ _ _ _ _ _ _ _ (c.spared-controlled.ensures.state ∙ c.requires.controlled)
+            (c.spared-common.ensures.state ∙ c.requires.common) attended,
+        heard,
+        ends,
+        reported,
+      ),
     )
