@@ -236,8 +236,8 @@ build_metric own build =
 
 -- ---- all of it
 
--- the metrics of an endpoint in this state, with these packet numbers reserved, and of its wires, by this program, where
--- all samples have this label
+-- the metrics of an endpoint in this state, with these packet numbers reserved, and of its wires, by this program,
+-- where all samples have this label
 abbrev pub metrics_of : List ℕ → Build → State → Reserved → TxCounters → RxCounters
     → (List ℕ → Option ChannelCounters) → WireReport → WireReport → List ℕ
 metrics_of own build s reserved sent received table controlled common =

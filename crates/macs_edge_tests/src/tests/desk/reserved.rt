@@ -23,12 +23,7 @@ fn send(rt: &impl Abort, endpoint: &mut Endpoint<MemDisk>, frames: u8) {
 }
 
 /// One endpoint delivers so many frames of another, of which the first may wait for a reservation.
-fn pass(
-    rt: &impl Abort,
-    there: &mut Endpoint<MemDisk>,
-    here: &mut Endpoint<MemDisk>,
-    frames: u8,
-) {
+fn pass(rt: &impl Abort, there: &mut Endpoint<MemDisk>, here: &mut Endpoint<MemDisk>, frames: u8) {
     let mut frame = FrameBuf::new();
     let mut plain = FrameBuf::new();
     for _ in 0..frames {

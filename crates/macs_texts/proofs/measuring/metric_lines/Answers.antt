@@ -12,6 +12,6 @@ use Rattle.macs_texts.proofs.measuring.metric_lines.Goals as goal
 pub returns : goal.returns
 returns g c = c.metrics_of.ensures ∙ ap (λ (sci : List ℕ). written c.args.paper.now (metrics_of (own_label sci)
     c.args.build.now (state_of c.args.endpoint.now no_logs) (reserved_of c.args.endpoint.now)
-    (txsc.counters_of c.args.endpoint.now.tx) (rxsc.counters_of c.args.endpoint.now.rx) (rxsc.channel_counters_of c.args.endpoint.now.rx)
-    c.args.controlled.now c.args.common.now))
+    (txsc.counters_of c.args.endpoint.now.tx) (rxsc.counters_of c.args.endpoint.now.rx)
+    (rxsc.channel_counters_of c.args.endpoint.now.rx) c.args.controlled.now c.args.common.now))
     (c.sci-own.ensures ∙ ap (λ (i : Identity). i.sci) c.identity.ensures)
