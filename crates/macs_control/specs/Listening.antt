@@ -7,6 +7,7 @@ use Rattle.macs_edge.specs.declared.attending.CommandEnd.{CommandEnd}
 use Rattle.macs_edge.specs.declared.attending.Order.{Order}
 use Rattle.macs_edge.specs.declared.attending.Order.TheVariants.{Go, Submit, End}
 use Rattle.macs_edge.specs.declared.counts.WireCounts.{WireCounts}
+use Rattle.macs_endpoint.specs.Reserved.{reserved_of}
 use Rattle.macs_endpoint.specs.State.{no_logs}
 use Rattle.macs_endpoint.specs.Value.{EndpointValue, state_of}
 use Rattle.macs_endpoint.specs.declared.fault.SubmitFault.{SubmitFault}
@@ -55,8 +56,9 @@ pub record Reports : Type 0 where
 -- the counters, with what was dropped
 abbrev pub counted_of : {D : Type 0} → EndpointValue D → WireCounts → WireCounts → Dropped → List ℕ
 counted_of endpoint controlled common dropped =
-    counters_text (state_of endpoint no_logs) (txsc.counters_of endpoint.tx) (rxsc.counters_of endpoint.rx)
-    (rxsc.channel_counters_of endpoint.rx) (reported controlled dropped.controlled) (reported common dropped.common)
+    counters_text (state_of endpoint no_logs) (reserved_of endpoint) (txsc.counters_of endpoint.tx)
+    (rxsc.counters_of endpoint.rx) (rxsc.channel_counters_of endpoint.rx) (reported controlled dropped.controlled)
+    (reported common dropped.common)
 
 -- the reports now
 abbrev pub reports_of : {D : Type 0} → Program → Option Dropped → (Command → Option (Result (Unit {0}) NoteFault))
@@ -75,8 +77,9 @@ reports_of program known noted endpoint controlled common = record {
 -- the metrics of this program
 abbrev pub measured_of : {D : Type 0} → Build → EndpointValue D → WireCounts → WireCounts → Dropped → List ℕ
 measured_of build endpoint controlled common dropped =
-    metrics_text build (state_of endpoint no_logs) (txsc.counters_of endpoint.tx) (rxsc.counters_of endpoint.rx)
-    (rxsc.channel_counters_of endpoint.rx) (reported controlled dropped.controlled) (reported common dropped.common)
+    metrics_text build (state_of endpoint no_logs) (reserved_of endpoint) (txsc.counters_of endpoint.tx)
+    (rxsc.counters_of endpoint.rx) (rxsc.channel_counters_of endpoint.rx) (reported controlled dropped.controlled)
+    (reported common dropped.common)
 
 -- ---- a line
 

@@ -36,3 +36,4 @@ mod OneCommand
 pub mod Rested
 mod RestCall
 mod MadeSteps
+mod Skipped

@@ -24,3 +24,4 @@ pub mod Rooms
 pub mod WorkThroughCalls
 pub mod AtRest
 pub mod Halves
+pub mod Reserved

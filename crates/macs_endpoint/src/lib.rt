@@ -16,6 +16,7 @@ mod progress;
 mod queue;
 mod refilling;
 mod remote;
+pub mod reserved;
 mod resting;
 mod serving;
 mod stepping;

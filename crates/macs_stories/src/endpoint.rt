@@ -133,9 +133,9 @@ fn command(endpoint: &mut Played, words: Words<'_>, answer: &mut Answer) -> Opti
     Some(())
 }
 
-fn tell_next(next: Option<u64>, answer: &mut Answer) {
-    match next {
-        Some(next) => answer.number(next),
+fn tell_number(number: Option<u64>, answer: &mut Answer) {
+    match number {
+        Some(number) => answer.number(number),
         None => answer.word("none"),
     }
 }
@@ -151,7 +151,7 @@ fn tell_numbers(numbers: Option<RxNumbers>, answer: &mut Answer) {
 }
 
 fn ask_next(endpoint: &Played, words: &mut Words<'_>, answer: &mut Answer) -> Option<()> {
-    tell_next(endpoint.next_number(an_of(words)?), answer);
+    tell_number(endpoint.next_number(an_of(words)?), answer);
     Some(())
 }
 
@@ -162,12 +162,27 @@ fn ask_numbers(endpoint: &Played, words: &mut Words<'_>, answer: &mut Answer) ->
     Some(())
 }
 
+/// Reports how many packet numbers of a transmit association are reserved and not used.
+fn ask_reserved(endpoint: &Played, words: &mut Words<'_>, answer: &mut Answer) -> Option<()> {
+    tell_number(endpoint.reserved_tx(an_of(words)?), answer);
+    Some(())
+}
+
+/// The same of a receive association.
+fn ask_reserved_of(endpoint: &Played, words: &mut Words<'_>, answer: &mut Answer) -> Option<()> {
+    let sci = sci_of(words)?;
+    tell_number(endpoint.reserved_rx(sci, an_of(words)?), answer);
+    Some(())
+}
+
 /// Answers a question; `None` where there is none.
 fn ask(endpoint: &Played, words: Words<'_>, answer: &mut Answer) -> Option<()> {
     let mut words = words;
     let told = match words.take() {
         "next" => ask_next(endpoint, &mut words, answer),
         "numbers" => ask_numbers(endpoint, &mut words, answer),
+        "reserved" => ask_reserved(endpoint, &mut words, answer),
+        "reserved-of" => ask_reserved_of(endpoint, &mut words, answer),
         question => ask_all(endpoint, question, answer),
     };
     whole(told, &words)

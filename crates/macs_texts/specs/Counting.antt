@@ -14,12 +14,14 @@ use Rattle.macs_rxsc.specs.declared.verdict.Kind.TheVariants as kind
 use Rattle.macs_rxsc.specs.declared.verdict.Reason.TheVariants as reason
 use Rattle.macs_rxsc.specs.declared.verdict.Verdict.{Verdict}
 use Rattle.macs_rxsc.specs.declared.verdict.Verdict.TheVariants.{Delivered, Discarded, HeldBack}
+use Rattle.macs_endpoint.specs.Reserved.{Reserved}
 use Rattle.macs_endpoint.specs.State.{State}
 use Rattle.macs_edge.specs.declared.counts.WireCounts.{WireCounts}
 use Rattle.macs_texts.specs.declared.wire_report.WireNumber.{WireNumber}
 use Rattle.macs_texts.specs.declared.wire_report.WireNumber.TheVariants as wire
 use Rattle.macs_texts.specs.declared.wire_report.WireReport.{WireReport}
 use Rattle.macs_texts.specs.Lines.{channel_name, count_line, count_line_of}
+use Rattle.macs_texts.specs.ReservedTexts.{reserved_text}
 use Rattle.macs_texts.specs.Showing.{association_numbers}
 
 -- ---- words
@@ -158,10 +160,11 @@ keys_text config = count_line (codes "left keys") (codes "tx") (max_spent - leng
 
 -- ---- all of it
 
--- the counters of an endpoint in this state and of its wires, one per line
-abbrev pub counters_text : State → TxCounters → RxCounters → (List ℕ → Option ChannelCounters) → WireReport
-    → WireReport → List ℕ
-counters_text s sent received table controlled common =
+-- the counters of an endpoint in this state, with these packet numbers reserved, and of its wires, one per line
+abbrev pub counters_text : State → Reserved → TxCounters → RxCounters → (List ℕ → Option ChannelCounters)
+    → WireReport → WireReport → List ℕ
+counters_text s reserved sent received table controlled common =
     tx_text sent ++ (rx_text received ++ (flat_map (channel_text table) s.config.channels
     ++ (report_text (codes "wire 1") controlled
-    ++ (report_text (codes "wire 2") common ++ (left_text s ++ keys_text s.config)))))
+    ++ (report_text (codes "wire 2") common ++ (left_text s ++ (keys_text s.config
+    ++ reserved_text reserved s.config.channels))))))

@@ -5,4 +5,5 @@ pub mod Counting
 pub mod Measuring
 pub mod KeyTexts
 pub mod Programs
+pub mod ReservedTexts
 pub mod TrafficTexts

@@ -11,6 +11,7 @@ use Rattle.macs_rxsc.specs.Counting.{channel_count_of, count_of}
 use Rattle.macs_rxsc.specs.declared.counters.ChannelCounters.{ChannelCounters}
 use Rattle.macs_rxsc.specs.declared.counters.RxCounters.{RxCounters}
 use Rattle.macs_rxsc.specs.declared.verdict.Verdict.{Verdict}
+use Rattle.macs_endpoint.specs.Reserved.{Reserved}
 use Rattle.macs_endpoint.specs.State.{State}
 use Rattle.macs_texts.specs.declared.build.Build.{Build}
 use Rattle.macs_texts.specs.declared.wire_report.WireNumber.{WireNumber}
@@ -173,6 +174,49 @@ keys_metric own config = metric_head keys_name (codes "gauge") (codes "Keys that
     ++ (sample keys_name own (codes "side") (codes "tx") (max_spent - length config.spent_tx)
     ++ sample keys_name own (codes "side") (codes "rx") (max_spent - length config.spent_rx))
 
+-- ---- what is reserved
+
+-- packet numbers that are reserved and not used, of transmit associations
+abbrev pub tx_reserved_name : List ℕ
+tx_reserved_name = codes "macsec_tx_numbers_reserved"
+
+-- how many there are of one, if it exists
+abbrev pub tx_reserved_sample : List ℕ → Reserved → ℕ → List ℕ
+tx_reserved_sample own reserved an =
+    sample_of tx_reserved_name own (codes "an") (decimal an) (reserved.tx an)
+
+-- how many there are of each
+abbrev pub tx_reserved_metric : List ℕ → Reserved → List ℕ
+tx_reserved_metric own reserved =
+    metric_head tx_reserved_name (codes "gauge")
+    (codes "Packet numbers reserved and not used, which a power loss would skip.")
+    ++ flat_map (tx_reserved_sample own reserved) association_numbers
+
+-- the same of receive associations
+abbrev pub rx_reserved_name : List ℕ
+rx_reserved_name = codes "macsec_rx_numbers_reserved"
+
+-- how many there are of one, if it exists
+abbrev pub rx_reserved_sample : List ℕ → Reserved → List ℕ → ℕ → List ℕ
+rx_reserved_sample own reserved sci an =
+    sample_of rx_reserved_name (channel_labels own sci) (codes "an") (decimal an) (reserved.rx sci an)
+
+-- how many there are of each of a channel
+abbrev pub rx_reserved_samples : List ℕ → Reserved → List ℕ → List ℕ
+rx_reserved_samples own reserved sci = flat_map (rx_reserved_sample own reserved sci) association_numbers
+
+-- how many there are of each of these channels
+abbrev pub rx_reserved_metric : List ℕ → Reserved → List (List ℕ) → List ℕ
+rx_reserved_metric own reserved channels =
+    metric_head rx_reserved_name (codes "gauge")
+    (codes "Packet numbers reserved and not received, late after a power loss.")
+    ++ flat_map (rx_reserved_samples own reserved) channels
+
+-- both
+abbrev pub reserved_metrics : List ℕ → Reserved → List (List ℕ) → List ℕ
+reserved_metrics own reserved channels =
+    tx_reserved_metric own reserved ++ rx_reserved_metric own reserved channels
+
 -- ---- the program
 
 -- which program reports
@@ -192,15 +236,16 @@ build_metric own build =
 
 -- ---- all of it
 
--- the metrics of an endpoint in this state and of its wires, by this program, where all samples have this label
-abbrev pub metrics_of : List ℕ → Build → State → TxCounters → RxCounters → (List ℕ → Option ChannelCounters)
-    → WireReport → WireReport → List ℕ
-metrics_of own build s sent received table controlled common =
+-- the metrics of an endpoint in this state, with these packet numbers reserved, and of its wires, by this program,
+-- where all samples have this label
+abbrev pub metrics_of : List ℕ → Build → State → Reserved → TxCounters → RxCounters
+    → (List ℕ → Option ChannelCounters) → WireReport → WireReport → List ℕ
+metrics_of own build s reserved sent received table controlled common =
     tx_metric own sent ++ (rx_metric own received ++ (channel_metric own s table
     ++ (wires_metrics own controlled common ++ (left_metric own s ++ (keys_metric own s.config
-    ++ build_metric own build)))))
+    ++ (reserved_metrics own reserved s.config.channels ++ build_metric own build))))))
 
 -- where this is the SCI of the endpoint
-abbrev pub metrics_text : Build → State → TxCounters → RxCounters → (List ℕ → Option ChannelCounters) → WireReport
-    → WireReport → List ℕ
+abbrev pub metrics_text : Build → State → Reserved → TxCounters → RxCounters → (List ℕ → Option ChannelCounters)
+    → WireReport → WireReport → List ℕ
 metrics_text build s = metrics_of (own_label s.identity.sci) build s

@@ -6,6 +6,7 @@ ghost use Rattle.std.specs.Option.{option_map};
 ghost use Rattle.macs_commands.specs.Papers.{Writes};
 ghost use Rattle.macs_config.specs.Config.{max_spent};
 ghost use Rattle.macs_config.specs.Value.{config_of};
+ghost use Rattle.macs_endpoint.specs.Reserved.{reserved_of};
 ghost use Rattle.macs_endpoint.specs.State.{no_logs};
 ghost use Rattle.macs_endpoint.specs.Value.{state_of};
 ghost use Rattle.macs_rxsc.specs.Value as rxsc;
@@ -15,6 +16,7 @@ ghost use Rattle.macs_texts.specs.Counting.{left_text, report_text, rx_text, tx_
 ghost use Rattle.macs_texts.specs.Lines.{channel_name, count_line_of};
 
 use crate::lines::{Subject, count_line, count_line_of, counted, numbered, put_name};
+use crate::reserved::reserved_lines;
 use crate::wire_report::{WIRE_NUMBERS, WireReport, wire_number};
 use crate::words::{fault_words, verdict_words, wire_words};
 use macs_commands::Paper;
@@ -181,7 +183,8 @@ fn key_lines(paper: &mut Paper, config: &Config)
     count_line(paper, "left keys", "rx", keys_left(config.spent_rx()));
 }
 
-/// Writes the counters of an endpoint and of its wires, one per line.
+/// Writes the counters of an endpoint and of its wires, one per line; the last ones are of packet
+/// numbers and keys that are left, and of numbers that are reserved and not used.
 pub fn counter_lines<D: SectorDisk>(
     paper: &mut Paper,
     endpoint: &Endpoint<D>,
@@ -189,8 +192,9 @@ pub fn counter_lines<D: SectorDisk>(
     common: &WireReport,
 )
     ensures { Writes paper.old paper.new (counters_text (state_of endpoint.now no_logs)
-        (txsc.counters_of endpoint.now.tx) (rxsc.counters_of endpoint.now.rx)
-        (rxsc.channel_counters_of endpoint.now.rx) controlled.now common.now) }
+        (reserved_of endpoint.now) (txsc.counters_of endpoint.now.tx)
+        (rxsc.counters_of endpoint.now.rx) (rxsc.channel_counters_of endpoint.now.rx)
+        controlled.now common.now) }
 {
     tx_lines(paper, endpoint);
     rx_lines(paper, endpoint);
@@ -199,4 +203,5 @@ pub fn counter_lines<D: SectorDisk>(
     wire_lines(paper, "wire 2", common);
     left_lines(paper, endpoint);
     key_lines(paper, endpoint.config());
+    reserved_lines(paper, endpoint);
 }

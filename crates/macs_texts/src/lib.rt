@@ -10,6 +10,8 @@ mod measuring;
 mod owned_lines;
 mod program;
 mod refusals;
+mod reserved;
+mod reserved_metrics;
 mod samples;
 mod showing;
 mod traffic;

@@ -10,7 +10,7 @@ use macs_commands::Paper;
 use macs_fields::{An, Sci};
 
 /// Octets for a report: each fits with 32 channels, four associations a channel and numbers of 20
-/// digits. The longest, the metrics, has at most 32,410 octets and the texts of the build.
+/// digits. The longest, the metrics, has at most 46,578 octets and the texts of the build.
 pub const REPORT_ROOM: usize = 65_536;
 
 /// What a line is about.

@@ -4,6 +4,7 @@
 ghost use Rattle.std.specs.Prelude.{◌++◌, codes, flat_map, string_bytes};
 ghost use Rattle.macs_commands.specs.Papers.{Writes};
 ghost use Rattle.macs_config.specs.Value.{config_of};
+ghost use Rattle.macs_endpoint.specs.Reserved.{reserved_of};
 ghost use Rattle.macs_endpoint.specs.State.{no_logs};
 ghost use Rattle.macs_endpoint.specs.Value.{state_of};
 ghost use Rattle.macs_rxsc.specs.Value as rxsc;
@@ -16,6 +17,7 @@ ghost use Rattle.macs_texts.specs.Measuring.{wires_metrics};
 
 use crate::build::Build;
 use crate::counting::{CHANNEL_VERDICTS, RX_VERDICTS, TX_FAULTS, keys_left, left_of};
+use crate::reserved_metrics::reserved_metrics;
 use crate::samples::{Metric, rest_of_sample};
 use crate::wire_report::{WIRE_NUMBERS, WireNumber, WireReport, wire_number};
 use crate::words::{fault_words, verdict_words, wire_help, wire_kind, wire_metric_name};
@@ -219,8 +221,9 @@ fn metrics_of<D: SectorDisk>(
 )
     ensures { Writes paper.old paper.new
         (metrics_of (own_label own) build.now (state_of endpoint.now no_logs)
-        (txsc.counters_of endpoint.now.tx) (rxsc.counters_of endpoint.now.rx)
-        (rxsc.channel_counters_of endpoint.now.rx) controlled.now common.now) }
+        (reserved_of endpoint.now) (txsc.counters_of endpoint.now.tx)
+        (rxsc.counters_of endpoint.now.rx) (rxsc.channel_counters_of endpoint.now.rx)
+        controlled.now common.now) }
 {
     tx_metric(paper, own, endpoint);
     rx_metric(paper, own, endpoint);
@@ -228,6 +231,7 @@ fn metrics_of<D: SectorDisk>(
     wires_metrics(paper, own, controlled, common);
     left_metric(paper, own, endpoint);
     keys_metric(paper, own, endpoint.config());
+    reserved_metrics(paper, own, endpoint);
     build_metric(paper, own, build);
 }
 
@@ -241,8 +245,9 @@ pub fn metric_lines<D: SectorDisk>(
     common: &WireReport,
 )
     ensures { Writes paper.old paper.new (metrics_text build.now (state_of endpoint.now no_logs)
-        (txsc.counters_of endpoint.now.tx) (rxsc.counters_of endpoint.now.rx)
-        (rxsc.channel_counters_of endpoint.now.rx) controlled.now common.now) }
+        (reserved_of endpoint.now) (txsc.counters_of endpoint.now.tx)
+        (rxsc.counters_of endpoint.now.rx) (rxsc.channel_counters_of endpoint.now.rx)
+        controlled.now common.now) }
 {
     let own = endpoint.identity().sci();
     metrics_of(paper, own, build, endpoint, controlled, common);

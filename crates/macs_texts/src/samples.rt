@@ -10,7 +10,7 @@ ghost use Rattle.macs_texts.specs.Measuring.{sample, sample_of, type_line};
 
 use crate::lines::numbered;
 use macs_commands::Paper;
-use macs_fields::Sci;
+use macs_fields::{An, Sci};
 
 /// A metric of the endpoint with this SCI.
 #[derive(Clone, Copy)]
@@ -75,6 +75,16 @@ pub(crate) fn rest_of_sample(paper: &mut Paper, label: &str, value: &str, number
     end_sample(paper, number);
 }
 
+/// The same for a value that is a number.
+fn rest_of_sample_at(paper: &mut Paper, label: &str, value: u64, number: u64)
+    ensures { Writes paper.old paper.new (line (codes "," ++ (label.now
+        ++ (codes "=\"" ++ (decimal value ++ (codes "\"} " ++ decimal number)))))) }
+{
+    begin_label(paper, label);
+    paper.number(value);
+    end_sample(paper, number);
+}
+
 impl Metric<'_> {
     /// Writes the description and the type of the metric: the lines before its samples.
     pub fn describe(&self, paper: &mut Paper, kind: &str, help: &str)
@@ -109,9 +119,7 @@ impl Metric<'_> {
             (sample self.now.name.now (own_label self.now.own) label.now (decimal value) number) }
     {
         self.begin_sample(paper);
-        begin_label(paper, label);
-        paper.number(value);
-        end_sample(paper, number);
+        rest_of_sample_at(paper, label, value, number);
     }
 
     /// Writes the beginning of a sample of a channel, up to the label of the channel.
@@ -134,6 +142,15 @@ impl Metric<'_> {
             self.begin_channel_sample(paper, sci);
             rest_of_sample(paper, "verdict", verdict, number);
         }
+    }
+
+    /// Writes a sample of an association of a channel.
+    pub fn association_sample(&self, paper: &mut Paper, sci: Sci, an: An, number: u64)
+        ensures { Writes paper.old paper.new (sample self.now.name.now
+            (channel_labels (own_label self.now.own) sci) (codes "an") (decimal an) number) }
+    {
+        self.begin_channel_sample(paper, sci);
+        rest_of_sample_at(paper, "an", u64::from(an.get()), number);
     }
 
     /// Writes a sample, if there is a number.

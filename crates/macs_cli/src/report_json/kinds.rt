@@ -29,6 +29,8 @@ pub const KINDS: &[&str] = &[
     "wire wire:number counter:text count:number",
     "left tx an:number numbers:number",
     "left keys side:text keys:number",
+    "reserved tx an:number numbers:number",
+    "reserved rx sci:text an:number numbers:number",
     // of `keys`
     "tx an:number key key:number id id:text",
     "rx sci:text an:number key key:number id id:text",

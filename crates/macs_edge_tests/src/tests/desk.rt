@@ -4,6 +4,7 @@ mod clients;
 mod metrics;
 mod refusals;
 mod reports;
+mod reserved;
 mod traffic;
 
 use super::endpoints::{OWN, formatted, opened};

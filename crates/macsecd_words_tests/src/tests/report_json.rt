@@ -103,6 +103,14 @@ const COUNTED: &[Row] = &[
         "left keys rx 0",
         "{\"line\":\"left\",\"side\":\"rx\",\"keys\":0}",
     ),
+    (
+        "reserved tx 0 1536",
+        "{\"line\":\"reserved\",\"an\":0,\"numbers\":1536}",
+    ),
+    (
+        "reserved rx 0200000000020001 3 16",
+        "{\"line\":\"reserved\",\"sci\":\"0200000000020001\",\"an\":3,\"numbers\":16}",
+    ),
 ];
 
 /// The output of `keys` and `about`.

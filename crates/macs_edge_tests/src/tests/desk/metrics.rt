@@ -1,10 +1,12 @@
 //! Metrics that are due each time, and keep what is written.
 
 use super::clients::Asker;
-use super::{attended, program};
+use super::reserved::carrying;
+use super::{attended, program, relay_between};
 use macs_commands::requests::Metrics;
 use macs_config::Command;
 use macs_control::desk::{ControlDesk, Dropped, KeyNotes, NoteFault, Overruns, Time, report_paper};
+use std::alloc::Global;
 use std::process::Abort;
 
 /// What was written. It is due `left` times more, and claims nothing.
@@ -51,6 +53,25 @@ impl KeyNotes for FirstLost {
     fn note(&self, _command: &Command) -> Result<(), NoteFault> {
         Ok(())
     }
+}
+
+/// A desk whose metrics are due once.
+fn due_once<R: Abort>(
+    rt: &R,
+    alloc: Global,
+) -> ControlDesk<Asker<'_, R>, Written<'_, R>, FirstLost> {
+    let metrics = Written {
+        rt,
+        left: 1,
+        text: String::new(alloc),
+    };
+    ControlDesk::new(
+        report_paper(alloc).expect(rt, "memory"),
+        program(rt, alloc),
+        Asker::new(rt, alloc, "show"),
+        metrics,
+        FirstLost,
+    )
 }
 
 /// What is written of a new endpoint, by hand.
@@ -118,6 +139,10 @@ macsec_wire_overrun_total{sci=\"0200000000010001\",wire=\"1\"} 17
 # TYPE macsec_keys_left gauge
 macsec_keys_left{sci=\"0200000000010001\",side=\"tx\"} 512
 macsec_keys_left{sci=\"0200000000010001\",side=\"rx\"} 512
+# HELP macsec_tx_numbers_reserved Packet numbers reserved and not used, which a power loss would skip.
+# TYPE macsec_tx_numbers_reserved gauge
+# HELP macsec_rx_numbers_reserved Packet numbers reserved and not received, late after a power loss.
+# TYPE macsec_rx_numbers_reserved gauge
 # HELP macsecd_build_info The program that reports, always 1.
 # TYPE macsecd_build_info gauge
 macsecd_build_info{sci=\"0200000000010001\",version=\"7.8.9\",commit=\"abc\",proved=\"no\"} 1
@@ -136,18 +161,36 @@ fn expect_written<R: Abort>(
 /// Three looks, of which the first alone finds them due.
 #[test]
 fn metrics_are_written_where_they_are_due(rt: HostRuntime) {
-    let metrics = Written {
-        rt: &rt,
-        left: 1,
-        text: String::new(rt.alloc()),
-    };
-    let mut desk = ControlDesk::new(
-        report_paper(rt.alloc()).expect(&rt, "memory"),
-        program(&rt, rt.alloc()),
-        Asker::new(&rt, rt.alloc(), "show"),
-        metrics,
-        FirstLost,
-    );
+    let mut desk = due_once(&rt, rt.alloc());
     attended(&rt, rt.alloc(), &mut desk, 4);
     expect_written(&rt, desk, NEW);
+}
+
+/// The end of what is written of an endpoint with associations, by hand.
+const CARRYING: &str = "\
+# HELP macsec_tx_numbers_left Packet numbers left under a transmit key.
+# TYPE macsec_tx_numbers_left gauge
+macsec_tx_numbers_left{sci=\"0200000000010001\",an=\"2\"} 4294967292
+# HELP macsec_keys_left Keys that may still be installed.
+# TYPE macsec_keys_left gauge
+macsec_keys_left{sci=\"0200000000010001\",side=\"tx\"} 511
+macsec_keys_left{sci=\"0200000000010001\",side=\"rx\"} 510
+# HELP macsec_tx_numbers_reserved Packet numbers reserved and not used, which a power loss would skip.
+# TYPE macsec_tx_numbers_reserved gauge
+macsec_tx_numbers_reserved{sci=\"0200000000010001\",an=\"2\"} 13
+# HELP macsec_rx_numbers_reserved Packet numbers reserved and not received, late after a power loss.
+# TYPE macsec_rx_numbers_reserved gauge
+macsec_rx_numbers_reserved{sci=\"0200000000010001\",channel=\"0200000000020001\",an=\"1\"} 15
+macsec_rx_numbers_reserved{sci=\"0200000000010001\",channel=\"0200000000020001\",an=\"3\"} 14
+# HELP macsecd_build_info The program that reports, always 1.
+# TYPE macsecd_build_info gauge
+macsecd_build_info{sci=\"0200000000010001\",version=\"7.8.9\",commit=\"abc\",proved=\"no\"} 1
+";
+
+#[test]
+fn metrics_are_written_of_each_association(rt: HostRuntime) {
+    let mut desk = due_once(&rt, rt.alloc());
+    relay_between(&rt, rt.alloc(), carrying(&rt, rt.alloc()), &mut desk, 4);
+    let (_asker, metrics) = desk.into_parts();
+    assert!(rt; metrics.text.as_str().ends_with(CARRYING));
 }

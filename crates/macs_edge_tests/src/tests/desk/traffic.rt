@@ -39,13 +39,13 @@ impl KeyNotes for AtTen {
     }
 }
 
-const THERE: Sci = Sci([2, 0, 0, 0, 0, 2, 0, 1]);
+pub(super) const THERE: Sci = Sci([2, 0, 0, 0, 0, 2, 0, 1]);
 
 /// A frame with 48 octets of User Data.
-const PLAIN: [u8; 60] = [9; 60];
+pub(super) const PLAIN: [u8; 60] = [9; 60];
 
 /// Sends under this association number from now on.
-fn send_under(
+pub(super) fn send_under(
     rt: &impl Abort,
     endpoint: &mut Endpoint<MemDisk>,
     number: u8,
@@ -65,7 +65,12 @@ fn send_under(
 }
 
 /// Receives from the other endpoint under this association number from now on.
-fn receive_under(rt: &impl Abort, endpoint: &mut Endpoint<MemDisk>, number: u8, key: u8) {
+pub(super) fn receive_under(
+    rt: &impl Abort,
+    endpoint: &mut Endpoint<MemDisk>,
+    number: u8,
+    key: u8,
+) {
     let install = Command::RxInstall {
         sci: THERE,
         an: number_of(rt, number),

@@ -14,4 +14,5 @@ returns g c = and_then c.args.paper.now c.tx_metric.new.paper c.build_metric.new
     (and_then c.left_metric.new.paper c.keys_metric.new.paper c.build_metric.new.paper _ _
     (c.keys_metric.ensures ∙ ap (λ (k : Config). written c.left_metric.new.paper (keys_metric (own_label c.args.own) k))
     c.config.ensures.config)
-    c.build_metric.ensures)))))
+    (and_then c.keys_metric.new.paper c.reserved_metrics.new.paper c.build_metric.new.paper _ _
+    c.reserved_metrics.ensures c.build_metric.ensures))))))

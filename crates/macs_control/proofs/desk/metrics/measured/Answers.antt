@@ -1,5 +1,6 @@
 use Rattle.std.proofs.Common.{◌∙◌, List, ℕ, ap}
 use Rattle.macs_commands.specs.Papers.{written}
+use Rattle.macs_endpoint.specs.Reserved.{reserved_of}
 use Rattle.macs_endpoint.specs.State.{no_logs}
 use Rattle.macs_endpoint.specs.Value.{state_of}
 use Rattle.macs_rxsc.specs.Value as rxsc
@@ -14,7 +15,7 @@ returns g c = (
   c.dropped-first.result,
   c.dropped-first.ensures,
   c.metric_lines.ensures ∙ ap (λ (t : List ℕ). written c.args.paper.now t) (of-both
-      (metrics_text c.args.build.now (state_of c.args.endpoint.now no_logs)
+      (metrics_text c.args.build.now (state_of c.args.endpoint.now no_logs) (reserved_of c.args.endpoint.now)
       (txsc.counters_of c.args.endpoint.now.tx) (rxsc.counters_of c.args.endpoint.now.rx)
       (rxsc.channel_counters_of c.args.endpoint.now.rx))
       c.reported-controlled.result c.reported-common.result
