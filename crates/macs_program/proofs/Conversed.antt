@@ -1,10 +1,10 @@
 -- What was said to a relay, and its answers.
-use Rattle.std.proofs.Common.{◌≡◌, ◌≢◌, ◌∙◌, inl, inr, ℕ, ◌+◌, ◌<◌, ◌≤◌, Bool, true, false, if◌then◌else◌, List, []}
+use Rattle.std.proofs.Common.{◌≡◌, ◌≢◌, ◌∙◌, inl, inr, ℕ, ◌+◌, ◌<◌, ◌≤◌, Bool, true, if◌then◌else◌, List, []}
 use Rattle.std.proofs.Common.{◌∷◌, ◌++◌, length, take, drop, get_or, Option, Some, None, is_some, Result, Ok, Err}
 use Rattle.std.proofs.Common.{IfErr, OnOk, ap, refl, subst, sym, arith}
 use Rattle.std.specs.Io.KnownBytes.{Appends}
 use Rattle.std.proofs.KnownBytes.{Appends-nil, Appends-trans}
-use Rattle.std.proofs.lemmas.List.{append-nil, length-take-le, take_all, take_more}
+use Rattle.std.proofs.lemmas.List.{length-take-le, take_all, take_more}
 use Rattle.macs_config.specs.declared.command.Command.{Command}
 use Rattle.macs_config.specs.declared.refusal.Refusal.{Refusal}
 use Rattle.macs_commands.specs.Requests.{request_line}

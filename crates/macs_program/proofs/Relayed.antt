@@ -6,7 +6,7 @@ use Rattle.macs_disk.specs.Disk.{Disk}
 use Rattle.macs_disk.specs.FileDisks.{disk_in_file}
 use Rattle.macs_disk.specs.Files.{FileState}
 use Rattle.macs_edge.specs.Attending.{IsAttended}
-use Rattle.macs_edge.specs.Relaying.{Relay, empty_lane, relay_of}
+use Rattle.macs_edge.specs.Relaying.{empty_lane, relay_of}
 use Rattle.macs_edge.specs.declared.attending.DeskEvent.{DeskEvent}
 use Rattle.macs_edge.specs.Wires.{WireState}
 use Rattle.macs_edge.specs.declared.relaying.RelaySummary.{RelaySummary}

@@ -1,8 +1,6 @@
 use Rattle.std.proofs.Common.{inl, inr, refl}
 use Rattle.std.proofs.lemmas.Result.{IfErr-weaker}
 use Rattle.macs_program.specs.Asking.{IsNoJson}
-use Rattle.macs_cli.specs.declared.failure.Failure.{Failure}
-use Rattle.macs_cli.specs.declared.failure.Failure.TheVariants.{Memory, Output}
 use Rattle.macs_program.proofs.answering.print_as_json.Goals as goal
 
 pub returns-clause-failed : goal.returns-clause-failed
