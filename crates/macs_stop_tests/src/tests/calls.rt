@@ -41,12 +41,12 @@ const KEPT: u64 = COMPACTED + PIECE;
 /// The rest begins: six ceilings were raised.
 const REST: u64 = KEPT + 6 * PIECE;
 
-/// How many gates it closes: those of the first area, all of whose slots were used. Each is read
-/// before.
-const CLOSED: u64 = 257;
+/// The gate of the head of the first area was read and closed, and that of slot 0 read, which is of
+/// the snapshot and so never open.
+const SLOTS: u64 = REST + 2 + 1;
 
-/// The gates are closed.
-const ALL_CLOSED: u64 = REST + 2 * CLOSED;
+/// The gates of the 255 other slots, all of which were used, were read and closed.
+const ALL_CLOSED: u64 = SLOTS + 2 * 255;
 
 /// The script ends: a sync, the body of the head and of six records, a sync, the head gate and a
 /// sync.
@@ -196,36 +196,41 @@ fn a_compaction_is_stopped_at_each_call(rt: HostRuntime) {
     expect(&rt, rt.alloc(), [COMPACTION, COMPACTED], Loses, totals);
 }
 
-/// So many gates, from one on, that are read and closed.
-fn expect_gates(rt: &impl Abort, alloc: Global, first: u64, gates: u64, losses: u64) {
-    assert!(rt; first < CLOSED);
-    assert!(rt; gates < CLOSED);
-    let from = REST + 2 * first;
-    let totals = Totals {
-        stops: 4 * gates,
-        losses,
-        openings: 0,
-    };
-    expect(rt, alloc, [from, from + 2 * gates], Loses, totals);
-}
-
-/// As many gates are pending as were closed: where the first is read nothing is, where the third is
-/// two are. Where a write fills its sector, that is one more.
+/// As many gates are pending as were closed: none at the first two calls, one at the next three,
+/// two at the two after them. Where a write fills its sector, that is one more.
 #[test]
 fn the_start_of_a_rest_is_stopped_at_each_call(rt: HostRuntime) {
-    let dead = 2 * (1 + 6 + 36);
-    let filled = (1 + 6) + (6 + 36) + (36 + 6);
-    expect_gates(&rt, rt.alloc(), 0, 86, dead + filled + 83 * 24);
+    let dead = 1 + 1 + 6 + 2 * 6 + 2 * 36 + 83 * 12;
+    let filled = 1 + 6 + 6 + (6 + 36) + (36 + 6) + 83 * 12;
+    let totals = Totals {
+        stops: 2 * (3 + 2 * 85),
+        losses: dead + filled,
+        openings: 0,
+    };
+    expect(&rt, rt.alloc(), [REST, SLOTS + 2 * 85], Loses, totals);
+}
+
+/// The gates of so many slots, after so many others, are read and closed.
+fn expect_gates(rt: &impl Abort, alloc: Global, before: u64, gates: u64) {
+    assert!(rt; before < 256);
+    assert!(rt; gates < 256);
+    let first = SLOTS + 2 * before;
+    let totals = Totals {
+        stops: 4 * gates,
+        losses: 24 * gates,
+        openings: 0,
+    };
+    expect(rt, alloc, [first, first + 2 * gates], Loses, totals);
 }
 
 #[test]
 fn further_gates_of_a_rest_are_stopped_at_each_call(rt: HostRuntime) {
-    expect_gates(&rt, rt.alloc(), 86, 86, 86 * 24);
+    expect_gates(&rt, rt.alloc(), 85, 85);
 }
 
 #[test]
 fn the_last_gates_of_a_rest_are_stopped_at_each_call(rt: HostRuntime) {
-    expect_gates(&rt, rt.alloc(), 172, 85, 85 * 24);
+    expect_gates(&rt, rt.alloc(), 170, 85);
 }
 
 /// The gates are pending at the first sync. Then bodies are, as in a compaction.
