@@ -149,7 +149,7 @@ CarriesBoth {D} disk_of old new = (endpoint : EndpointValue D) × (controlled : 
 abbrev pub TakesTurn : {D : Type 0} → (D → Disk) → Result Progress StepFault → Relay D → Relay D → Type 0
 TakesTurn {D} disk_of answer old new = (endpoint : EndpointValue D)
     × CarriesBoth disk_of old (record new { endpoint = endpoint })
-    × IsSoundEndpoint endpoint × IsCall disk_of endpoint Advances (Advanced answer) new.endpoint
+    × IsSoundEndpoint endpoint × IsStep disk_of endpoint answer new.endpoint
 
 -- this many turns, each with a step that is answered Ok
 abbrev pub TakesTurns : {D : Type 0} → (D → Disk) → ℕ → Relay D → Relay D → Type 0

@@ -123,8 +123,7 @@ pub fn frames_not_held_back<D: SectorDisk>()
 /// record of the snapshot. Any other calls may come between; no device call fails.
 pub fn work_ends<D: SectorDisk>()
     ensures { (old begun new : EndpointValue D) (turns : List (Transition D)) → IsIdle old.store
-        → IsCall D.disk old Advances (Advanced (Ok Worked)) begun → Lives D.disk begun turns new
-        → Lasts begun turns
+        → IsStep D.disk old (Ok Worked) begun → Lives D.disk begun turns new → Lasts begun turns
         → steps_made turns + 1 ≤ most_calls old.store }
 {}
 

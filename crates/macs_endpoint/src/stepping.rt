@@ -56,6 +56,7 @@ impl<D: SectorDisk> Endpoint<D> {
     /// opening finds what was under way or not.
     pub fn step(&mut self) -> Result<Step, StepFault>
         ensures call { IsCall D.disk self.old Advances (Advanced result) self.new }
+        ensures at_once { CallsAtOnce D.disk self.old result self.new }
     {
         if let Some(answer) = self.begin() {
             return answer;
@@ -71,11 +72,15 @@ impl<D: SectorDisk> Endpoint<D> {
     /// Begins what is due, unless work is under way, and makes no device call: the first part of a
     /// `step`. `None` if work is under way then: `next_call` returns the call that it needs.
     /// Otherwise the answer of a step that is complete without one: `Stopped`, `Idle`, `Done` with
-    /// a command that is not kept, or `GenerationsSpent`.
+    /// a command that is not kept, or `GenerationsSpent`. If it begins work, that is a call like any
+    /// other, which returns `Worked`; if work was under way already nothing changes.
     pub fn begin(&mut self) -> Option<Result<Step, StepFault>>
         ensures ended { IfSome result
             (λ answer. IsCall D.disk self.old Advances (Advanced answer) self.new) }
         ensures begun { result ≡ None → HasBegun D.disk self.old self.new }
+        ensures call { result ≡ None → IsIdle self.old.store
+            → IsCall D.disk self.old Advances (Advanced (Ok Worked)) self.new }
+        ensures same { result ≡ None → (¬ IsIdle self.old.store) → self.new ≡ self.old }
     {
         if self.is_stopped() {
             return Some(Err(StepFault::Stopped));
