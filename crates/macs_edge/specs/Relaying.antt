@@ -2,9 +2,9 @@
 use Rattle.std.specs.Prelude.{◌≡◌, ◌⊎◌, ◌<◌, ◌+◌, ℕ, zero, suc, if◌then◌else◌, List, Option, Some, None, IfOk, Result}
 use Rattle.std.specs.Prelude.{Ok, Err}
 use Rattle.macs_disk.specs.Disk.{Disk}
-use Rattle.macs_endpoint.specs.Calls.{IsCall}
+use Rattle.macs_endpoint.specs.Calls.{IsCall, IsStep}
 use Rattle.macs_endpoint.specs.Faults.{refill_fault_named}
-use Rattle.macs_endpoint.specs.State.{Advanced, Advances, Reply}
+use Rattle.macs_endpoint.specs.State.{Reply}
 use Rattle.macs_endpoint.specs.Step.{IsStopped}
 use Rattle.macs_endpoint.specs.Value.{EndpointValue, IsSoundEndpoint}
 use Rattle.macs_endpoint.specs.declared.fault.RefillFault.{RefillFault}

@@ -10,7 +10,7 @@ ghost use Rattle.macs_rxsc.specs.declared.verdict.Verdict.TheVariants.{HeldBack}
 ghost use Rattle.macs_store.specs.Keeps.{most_calls};
 ghost use Rattle.macs_store.specs.Value.{IsIdle, standing_in};
 ghost use Rattle.macs_endpoint.specs.Advancing.{ToRaise, next_due};
-ghost use Rattle.macs_endpoint.specs.Calls.{IsCall};
+ghost use Rattle.macs_endpoint.specs.Calls.{IsCall, IsStep};
 ghost use Rattle.macs_endpoint.specs.Ceilings.{Raise, standing_with_raise};
 ghost use Rattle.macs_endpoint.specs.Value.{EndpointValue, IsBacked, IsSoundEndpoint, disk_in};
 ghost use Rattle.macs_endpoint.specs.Value.{is_stopped, state_of};
