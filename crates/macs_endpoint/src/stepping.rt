@@ -72,8 +72,8 @@ impl<D: SectorDisk> Endpoint<D> {
     /// Begins what is due, unless work is under way, and makes no device call: the first part of a
     /// `step`. `None` if work is under way then: `next_call` returns the call that it needs.
     /// Otherwise the answer of a step that is complete without one: `Stopped`, `Idle`, `Done` with
-    /// a command that is not kept, or `GenerationsSpent`. If it begins work, that is a call like any
-    /// other, which returns `Worked`; if work was under way already nothing changes.
+    /// a command that is not kept, or `GenerationsSpent`. If it begins work, that is a call like
+    /// any other, which returns `Worked`; if work was under way already nothing changes.
     pub fn begin(&mut self) -> Option<Result<Step, StepFault>>
         ensures ended { IfSome result (λ answer. IsStep D.disk self.old answer self.new) }
         ensures begun { result ≡ None → HasBegun D.disk self.old self.new }

@@ -1,6 +1,6 @@
 -- A step in which no command begins: what a power loss inside it leaves fits the state before it.
 use Rattle.std.proofs.lemmas.Bool.{cases_Bool, cases_lt}
-use Rattle.std.proofs.Common.{◌≡◌, ◌≤◌, ◌+◌, le_refl, ◌⊎◌, ◌&&◌, inl, inr, ℕ, Bool, true, false, cond, not, List, []}
+use Rattle.std.proofs.Common.{◌≡◌, le_refl, ◌⊎◌, ◌&&◌, inl, inr, ℕ, Bool, true, false, cond, not, List, []}
 use Rattle.std.proofs.Common.{◌∷◌, Option, Some, None, Result, Ok, Err, is_ok, refl, sym, ◌∙◌, ap, subst, arith}
 use Rattle.macs_config.specs.Apply.{apply}
 use Rattle.macs_config.specs.Config.{this_edition}

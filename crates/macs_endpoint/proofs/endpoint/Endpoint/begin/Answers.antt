@@ -20,11 +20,10 @@ returns-then-not-is_idle-clause-begun g c = λ none.
     c.if-not-is_idle.true)
 
 pub returns-in-None-clause-ended : goal.returns-in-None-clause-ended
-returns-in-None-clause-ended g c =
-    (
-      idle-call g.D.SectorDisk.disk c.args.self.now (sym c.is_stopped.ensures ∙ c.if-is_stopped.false)
-          (subst (λ (e : EndpointValue g.row.D.Denot). IsIdle e.store) c.self.view_is
-          (c.is_idle.ensures.0 c.if-not-is_idle.false))
-          (sym c.next_due.ensures ∙ ap (option_map due_of) c.in-None.is),
-      tt,
-    )
+returns-in-None-clause-ended g c = (
+  idle-call g.D.SectorDisk.disk c.args.self.now (sym c.is_stopped.ensures ∙ c.if-is_stopped.false)
+      (subst (λ (e : EndpointValue g.row.D.Denot). IsIdle e.store) c.self.view_is
+      (c.is_idle.ensures.0 c.if-not-is_idle.false))
+      (sym c.next_due.ensures ∙ ap (option_map due_of) c.in-None.is),
+  tt,
+)

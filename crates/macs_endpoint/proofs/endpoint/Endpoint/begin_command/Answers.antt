@@ -40,16 +40,18 @@ returns-in-Err-clause-ended g c =
     let rest = at-rest e kept c.requires.idle in
     let mid = endpoint_of c.self.inside.store c.self.inside.channels c.self.inside.queue c.self.inside.turn in
     let P : EndpointValue g.row.D.Denot → Type 0 =
-    IsCall d e Advances (Advanced (Ok (Done c.args.first.ticket (Err c.from.result)))) in
-    (commanded c.self.inside.store c.self.inside.channels (record c.self.inside.queue { waiting = others })
-    c.pop.new.self Reservation P None c.pop.ensures.after
-    (ap (λ (x : EndpointValue g.row.D.Denot). x.reserving) same ∙ rest.reserving)
-    (subst (λ (o : Option Command). P (record mid { under_way = o; waiting = others; turn = Reservation }))
-    (ap (λ (x : EndpointValue g.row.D.Denot). x.under_way) same ∙ rest.under_way c.requires.running)
-    (refused-ends d e kept c.requires.running c.requires.idle
-    c.args.first c.command_in_range.ensures waits others popped c.in-Err.fault c.start_first.new.self.store
-    refused.starts c.requires.next
-    c.from.result c.from.ensures mid same mid.tickets refl)), tt)
+    IsCall d e Advances (Advanced (Ok (Done c.args.first.ticket (Err c.from.result)))) in (
+      commanded c.self.inside.store c.self.inside.channels (record c.self.inside.queue { waiting = others })
+          c.pop.new.self Reservation P None c.pop.ensures.after
+          (ap (λ (x : EndpointValue g.row.D.Denot). x.reserving) same ∙ rest.reserving)
+          (subst (λ (o : Option Command). P (record mid { under_way = o; waiting = others; turn = Reservation }))
+          (ap (λ (x : EndpointValue g.row.D.Denot). x.under_way) same ∙ rest.under_way c.requires.running)
+          (refused-ends d e kept c.requires.running c.requires.idle
+          c.args.first c.command_in_range.ensures waits others popped c.in-Err.fault c.start_first.new.self.store
+          refused.starts c.requires.next
+          c.from.result c.from.ensures mid same mid.tickets refl)),
+      tt,
+    )
 
 pub returns-in-Err-clause-device : goal.returns-in-Err-clause-device
 returns-in-Err-clause-device g c =
