@@ -607,7 +607,7 @@ module _ {D : Type 0} (disk_of : D → Disk) where
   pub turn-goes : (answer : Result Progress StepFault) (old between new : Relay D) (goes : Goes disk_of old between)
       → TakesTurn disk_of answer between new
       → GoesOn disk_of old between goes.calls answer new
-  turn-goes answer old between new goes (late, (endpoint, controlled, common, carries_out, carries_back), sound, call) =
+  turn-goes answer old between new goes (late, (endpoint, controlled, common, carries_out, carries_back), sound, step) =
       let one =
       carries-moves disk_of Controlled (way_of between.endpoint between.controlled between.common between.to_common)
       (way_of endpoint controlled common new.to_common) carries_out in
@@ -642,7 +642,7 @@ module _ {D : Type 0} (disk_of : D → Disk) where
         goes = record {
           calls = ((goes.calls ++ one.calls) ++ two.calls) ++ three ∷ [];
           lives = lives-append disk_of old.endpoint late new.endpoint ((goes.calls ++ one.calls) ++ two.calls)
-              (three ∷ []) lives_two (sound, call, refl);
+              (three ∷ []) lives_two (sound, step.0, refl);
           out = subst (λ (l : List (List ℕ)). Flow old.controlled new.controlled old.common new.common l new.to_common)
               (given-behind Controlled goes.calls one.calls two.calls (three ∷ [])) out_all;
           back = subst
@@ -653,7 +653,7 @@ module _ {D : Type 0} (disk_of : D → Disk) where
         late = late;
         lives = lives-append disk_of between.endpoint endpoint late one.calls two.calls one.lives two.lives;
         are_frames = frames-append one.calls two.calls one.frames two.frames;
-        step = call;
+        step = step.0;
         calls = ap (λ (l : List (Transition D)). l ++ three ∷ []) (append_assoc goes.calls one.calls two.calls);
       }
 

@@ -73,14 +73,14 @@ module _ {D : Type 0} (disk_of : D → Disk) where
 
   lives-turn : (answer : Result Progress StepFault) (old new : Relay D) → TakesTurn disk_of answer old new
       → LivesOn disk_of old.endpoint new.endpoint
-  lives-turn answer old new (endpoint, (mid, controlled, common, one, two), sound, call) =
+  lives-turn answer old new (endpoint, (mid, controlled, common, one, two), sound, step) =
       behind old.endpoint endpoint new.endpoint
       (behind old.endpoint mid endpoint
       (lives-carries Controlled (way_of old.endpoint old.controlled old.common old.to_common)
       (way_of mid controlled common new.to_common) one)
       (lives-carries Common (way_of mid common controlled old.to_controlled)
       (way_of endpoint new.common new.controlled new.to_controlled) two))
-      (record { call = Advances; reply = Advanced answer; after = new.endpoint } ∷ [], (sound, call, refl))
+      (record { call = Advances; reply = Advanced answer; after = new.endpoint } ∷ [], (sound, step.0, refl))
 
   -- ---- relays that are attended
 

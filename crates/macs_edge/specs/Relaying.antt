@@ -2,9 +2,9 @@
 use Rattle.std.specs.Prelude.{◌≡◌, ◌⊎◌, ◌<◌, ◌+◌, ℕ, zero, suc, if◌then◌else◌, List, Option, Some, None, IfOk, Result}
 use Rattle.std.specs.Prelude.{Ok, Err}
 use Rattle.macs_disk.specs.Disk.{Disk}
-use Rattle.macs_endpoint.specs.Calls.{IsCall}
+use Rattle.macs_endpoint.specs.Calls.{IsCall, IsStep}
 use Rattle.macs_endpoint.specs.Faults.{refill_fault_named}
-use Rattle.macs_endpoint.specs.State.{Advanced, Advances, Reply}
+use Rattle.macs_endpoint.specs.State.{Reply}
 use Rattle.macs_endpoint.specs.Step.{IsStopped}
 use Rattle.macs_endpoint.specs.Value.{EndpointValue, IsSoundEndpoint}
 use Rattle.macs_endpoint.specs.declared.fault.RefillFault.{RefillFault}
@@ -149,7 +149,7 @@ CarriesBoth {D} disk_of old new = (endpoint : EndpointValue D) × (controlled : 
 abbrev pub TakesTurn : {D : Type 0} → (D → Disk) → Result Progress StepFault → Relay D → Relay D → Type 0
 TakesTurn {D} disk_of answer old new = (endpoint : EndpointValue D)
     × CarriesBoth disk_of old (record new { endpoint = endpoint })
-    × IsSoundEndpoint endpoint × IsCall disk_of endpoint Advances (Advanced answer) new.endpoint
+    × IsSoundEndpoint endpoint × IsStep disk_of endpoint answer new.endpoint
 
 -- this many turns, each with a step that is answered Ok
 abbrev pub TakesTurns : {D : Type 0} → (D → Disk) → ℕ → Relay D → Relay D → Type 0

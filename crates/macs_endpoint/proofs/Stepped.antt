@@ -1,6 +1,6 @@
 -- One device call of the work under way: it goes on, is done, or is cut short.
-use Rattle.std.proofs.Common.{◌≡◌, ◌≤◌, ◌⊎◌, ◌∷◌, inl, inr, ℕ, false, List, length, Option, Some, None, Result, Ok, Err}
-use Rattle.std.proofs.Common.{is_ok, refl, sym, ◌∙◌, ap, subst, arith}
+use Rattle.std.proofs.Common.{◌≡◌, ◌≤◌, ◌+◌, ◌⊎◌, ◌∷◌, inl, inr, ℕ, false, List, length, Option, Some, None, Result, Ok}
+use Rattle.std.proofs.Common.{Err, is_ok, refl, sym, ◌∙◌, ap, subst, arith}
 use Rattle.macs_config.specs.Apply.{IsCommand}
 use Rattle.macs_config.specs.Config.{this_edition}
 use Rattle.macs_config.specs.Identity.{IsIdentity}
@@ -37,7 +37,7 @@ use Rattle.macs_endpoint.specs.Value.{IsReserving, IsSoundEndpoint, disk_in, is_
 use Rattle.macs_endpoint.specs.declared.fault.StepFault.{StepFault}
 use Rattle.macs_endpoint.specs.declared.fault.StepFault.TheVariants as step
 use Rattle.macs_endpoint.specs.declared.progress.Step.{Step as Progress}
-use Rattle.macs_endpoint.specs.declared.progress.Step.TheVariants.{Done, Reserved, Worked}
+use Rattle.macs_endpoint.specs.declared.progress.Step.TheVariants.{Done, Idle, Reserved, Worked}
 use Rattle.macs_endpoint.specs.declared.queue.Waiting.{Waiting}
 use Rattle.macs_endpoint.specs.declared.turn.Turn.TheVariants as turn
 use Rattle.macs_endpoint.proofs.Ended.{IsCut, IsDone, err_same, given_up-backed, given_up-moments, given_up-state}
@@ -49,6 +49,15 @@ use Rattle.macs_endpoint.proofs.Working.{cut-backed, fits-moments, kept-backed, 
 use Rattle.macs_endpoint.proofs.Still.{still-on}
 
 -- ---- the call that a step is
+
+-- a step makes one device call at most
+most_one : (old : ℕ) (result : Result Progress StepFault) (new : ℕ) → ClockAfter old result new → new ≤ old + 1
+most_one old (Ok Idle) new clock = clock
+most_one old (Ok Worked) new clock = omega (arith, clock)
+most_one old (Ok Reserved) new clock = omega (arith, clock)
+most_one old (Ok (Done ticket (Ok done))) new clock = omega (arith, clock)
+most_one old (Ok (Done ticket (Err at))) new clock = clock
+most_one old (Err at) new clock = clock
 
 module _ {D : Type 0} (disk_of : D → disk.Disk) (e : EndpointValue D) (running : is_stopped e ≡ false)
     (busy : ¬ IsIdle e.store)
@@ -68,7 +77,7 @@ module _ {D : Type 0} (disk_of : D → disk.Disk) (e : EndpointValue D) (running
       → Leaves (disk_in disk_of e) (disk_in disk_of new) (FitsState (state_of e logs) (disk_in disk_of e)))
       → (IsHonest (disk_in disk_of new) → IsBacked disk_of e → IsBacked disk_of new)
       → IsCall disk_of e Advances (Advanced result) new
-  advance-call steps ceilings goes one whose tx_counters rx_counters channel_counters works fails moments
+  advance-call steps ceilings goes clock whose tx_counters rx_counters channel_counters works fails moments
       backs = record {
         behaves = record {
           in_range = tt;
@@ -77,7 +86,12 @@ module _ {D : Type 0} (disk_of : D → disk.Disk) (e : EndpointValue D) (running
           limited = tt;
           still = still-on e e new result goes;
           ends_work = tt;
-          advances = λ runs. record { begins = λ idle. absurd (busy idle); goes_on = λ works. goes; one = one };
+          advances = λ runs. record {
+            begins = λ idle. absurd (busy idle);
+            goes_on = λ works. goes;
+            one = most_one (disk_in disk_of e).clock result (disk_in disk_of new).clock clock;
+            clock = λ works. clock;
+          };
           turn = whose;
           tx_counters = tx_counters;
           rx_counters = rx_counters;

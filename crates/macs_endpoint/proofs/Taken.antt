@@ -1,4 +1,4 @@
--- Work that is started with its first device call, and a command that is refused before.
+-- Work that is started, before its first device call or with it, and a command that is refused before.
 use Rattle.std.proofs.Common.{◌≡◌, ◌≤◌, ◌+◌, ◌==◌, inl, inr, ℕ, Bool, true, false, if◌then◌else◌, Option, Some, None}
 use Rattle.std.proofs.Common.{Result, Ok, Err, is_err, OnErr, OnOk, refl, sym, ◌∙◌, ap, subst, arith}
 use Rattle.macs_config.specs.Config.{this_edition}
@@ -7,7 +7,7 @@ use Rattle.macs_disk.specs.Disk as disk
 use Rattle.macs_disk.specs.Disk.{Works}
 use Rattle.macs_disk.specs.Runs.{Leaves}
 use Rattle.macs_disk.specs.States.{Image}
-use Rattle.macs_disk.proofs.Moments.{Leaves-weaker}
+use Rattle.macs_disk.proofs.Moments.{Leaves-start, Leaves-weaker, Works-start}
 use Rattle.macs_journal.specs.Areas.{least_sectors, slots}
 use Rattle.macs_txsc.specs.Value as txsc
 use Rattle.macs_rxsc.specs.Value as rxsc
@@ -17,7 +17,7 @@ use Rattle.macs_store.specs.Stepping.{HasUnderWay}
 use Rattle.macs_store.specs.Table.{standing_of}
 use Rattle.macs_store.specs.Value.{IsIdle, calls_left, standing_in}
 use Rattle.macs_store.specs.Value as store
-use Rattle.macs_endpoint.specs.Advancing.{BeginsWith, ClockAfter, GoesOn, Due, ToKeep, ToRaise, next_due}
+use Rattle.macs_endpoint.specs.Advancing.{AdvancesAs, BeginsWith, CallsAtOnce, GoesOn, Due, ToKeep, ToRaise, next_due}
 use Rattle.macs_endpoint.specs.Advancing.{due_among, turn_after_step}
 use Rattle.macs_endpoint.specs.Halves.{HasBegun}
 use Rattle.macs_endpoint.specs.Calls.{Fails, IsCall}
@@ -27,7 +27,8 @@ use Rattle.macs_endpoint.specs.Needed.{raise_in}
 use Rattle.macs_endpoint.specs.Restart.{Fits, FitsCall, state_during}
 use Rattle.macs_endpoint.specs.State.{Advanced, Advances, Logs, State, command_made, no_logs}
 use Rattle.macs_endpoint.specs.Step.{AdvanceStep, Step}
-use Rattle.macs_endpoint.specs.Value.{EndpointValue, IsBacked, IsSoundEndpoint, disk_in, is_stopped, state_of}
+use Rattle.macs_endpoint.specs.Value.{EndpointValue, IsBacked, IsSoundEndpoint, device_in, disk_in, is_stopped}
+use Rattle.macs_endpoint.specs.Value.{state_of}
 use Rattle.macs_endpoint.specs.declared.fault.StepFault.{StepFault}
 use Rattle.macs_endpoint.specs.declared.fault.StepFault.TheVariants as step
 use Rattle.macs_endpoint.specs.declared.progress.Step.{Step as Progress}
@@ -37,6 +38,7 @@ use Rattle.macs_endpoint.specs.declared.turn.Turn.{Turn}
 use Rattle.macs_endpoint.specs.declared.turn.Turn.TheVariants as turn
 use Rattle.macs_endpoint.proofs.Alone.{alone-call}
 use Rattle.macs_endpoint.proofs.Ended.{begun-backed, begun-state, not_stopped}
+use Rattle.macs_endpoint.proofs.Fitting.{fits-advancing}
 use Rattle.macs_endpoint.proofs.Working.{at-rest}
 use Rattle.macs_endpoint.proofs.Still.{still-on, still-same}
 
@@ -84,7 +86,25 @@ pub many-calls : {D : Type 0} (disk_of : D → disk.Disk) (old : store.StoreValu
 many-calls disk_of old after new has one = let most = has.left in let least = some_calls old in
     omega (arith, one, most, least)
 
--- ---- the call after the start
+-- ---- the start, and the call after it
+
+-- A step makes a device call at once, which is the first one or not.
+pub at-once : {D : Type 0} (disk_of : D → disk.Disk) (old mid new : EndpointValue D)
+    (result : Result Progress StepFault) → device_in mid ≡ device_in old → (¬ IsIdle mid.store)
+    → (IsIdle old.store → calls_left mid.store ≤ most_calls old.store) → AdvancesAs disk_of mid result new
+    → CallsAtOnce disk_of old result new
+at-once {D} disk_of old mid new (Ok Worked) device busy within does = (
+  does.clock busy ∙ ap (λ (d : D). (disk_of d).clock + 1) device,
+  λ idle. omega (arith, within idle, (does.goes_on busy).3),
+)
+at-once disk_of old mid new (Ok Idle) device busy within does = tt
+at-once disk_of old mid new (Ok Reserved) device busy within does = tt
+at-once disk_of old mid new (Ok (Done ticket result)) device busy within does = tt
+at-once disk_of old mid new (Err fault) device busy within does = tt
+
+-- where no device call is made the clock stays
+clock-stays : (clock : ℕ) → clock ≤ clock + 1
+clock-stays clock = omega arith
 
 module _ {D : Type 0} (disk_of : D → disk.Disk) (e : EndpointValue D) (running : is_stopped e ≡ false)
     (idle : IsIdle e.store) (after : Standing)
@@ -103,6 +123,46 @@ module _ {D : Type 0} (disk_of : D → disk.Disk) (e : EndpointValue D) (running
     | inl stopped ↦ absurd (not_stopped (is_stopped taken) stopped.0 has.running)
     | inr steps ↦ steps.1
   ]
+
+  -- the start is a call by itself, which makes no device call
+  pub start-call : ((logs : Logs) → AdvanceStep (state_of e logs) (Ok Worked) (state_of taken logs))
+      → BeginsWith e (next_due e) (Ok Worked) taken → (IsBacked disk_of e → IsBacked disk_of taken)
+      → IsCall disk_of e Advances (Advanced (Ok Worked)) taken
+  start-call steps begins backs =
+      let old = disk_in disk_of e in
+      record {
+        behaves = record {
+          in_range = tt;
+          step = λ logs. (logs, inr (running, steps logs));
+          ceilings = ap standing_of has.standing;
+          limited = tt;
+          still = tt;
+          ends_work = tt;
+          advances = λ going. record {
+            begins = λ nothing. begins;
+            goes_on = λ busy. absurd (busy idle);
+            one = subst (λ (d : disk.Disk). d.clock ≤ old.clock + 1) (sym taken_disk) (clock-stays old.clock);
+            clock = λ busy. absurd (busy idle);
+          };
+          turn = refl;
+          tx_counters = refl;
+          rx_counters = refl;
+          channel_counters = refl;
+        };
+        device = record {
+          works = subst (λ (d : disk.Disk). Works old d) (sym taken_disk) (Works-start old);
+          fails = ap (λ (d : disk.Disk). d.failures) taken_disk;
+        };
+        survives = λ honest backed. record {
+          any_moment = λ logs after.
+              let Left : Image → Type 0 = FitsCall old.sectors (state_of e logs) Advances (state_of taken after) in
+              subst (λ (d : disk.Disk). Leaves old d Left) (sym taken_disk)
+              (Leaves-start old Left (λ image left.
+              inl (fits-advancing old.sectors image backed.size this_edition (state_of e logs)
+              (backed.fits logs image left))));
+          backed = backs backed;
+        };
+      }
 
   pub taken-call : (result : Result Progress StepFault) (new : EndpointValue D)
       → IsCall disk_of taken Advances (Advanced result) new
@@ -129,8 +189,9 @@ module _ {D : Type 0} (disk_of : D → disk.Disk) (e : EndpointValue D) (running
       advances = λ going. record {
         begins = λ nothing. begins;
         goes_on = λ busy. absurd (busy idle);
-        one = subst (λ (d : disk.Disk). ClockAfter d.clock result (disk_in disk_of new).clock) taken_disk
+        one = subst (λ (d : disk.Disk). (disk_in disk_of new).clock ≤ d.clock + 1) taken_disk
             (call.behaves.advances has.running).one;
+        clock = λ busy. absurd (busy idle);
       };
       turn = call.behaves.turn;
       tx_counters = call.behaves.tx_counters;
@@ -194,6 +255,9 @@ module _ {D : Type 0} (disk_of : D → disk.Disk) (e : EndpointValue D) (kept : 
       subst (λ (x : State). Fits this_edition sectors image (state_during x Advances)) (state logs) fits)
       (begun-backed disk_of e kept running idle raise first s has)
 
+  free : e.under_way ≡ None
+  free = (at-rest e kept idle).under_way running
+
   by_result : (result : Result Progress StepFault) (new : EndpointValue D)
       → IsCall disk_of raising Advances (Advanced result) new
       → GoesOn raising result new → IsCall disk_of e Advances (Advanced result) new
@@ -202,11 +266,11 @@ module _ {D : Type 0} (disk_of : D → disk.Disk) (e : EndpointValue D) (kept : 
         goes.0,
         (let left = goes.3 in let most = has.left in
             omega (arith, left, most)),
-        goes.1 ∙ (at-rest e kept idle).under_way running,
+        goes.1 ∙ free,
       )
       call.behaves.channel_counters
   by_result (Err step.Disk) new call goes = raise_call (Err step.Disk) new call (call.behaves.ceilings ∙ same_standing)
-      (goes ∙ (at-rest e kept idle).under_way running) call.behaves.channel_counters
+      (goes ∙ free) call.behaves.channel_counters
   by_result (Ok Idle) new call goes = absurd goes
   by_result (Ok Reserved) new call goes = absurd (many goes.2)
   by_result (Ok (Done ticket (Ok done))) new call goes = absurd (many goes.2)
@@ -214,31 +278,40 @@ module _ {D : Type 0} (disk_of : D → disk.Disk) (e : EndpointValue D) (kept : 
   by_result (Err step.Stopped) new call goes = absurd goes
   by_result (Err step.GenerationsSpent) new call goes = absurd goes
 
-  -- a reservation begins, with its first device call
-  pub raise-begins : (mid new : EndpointValue D) (result : Result Progress StepFault) → mid ≡ raising
-      → IsCall disk_of mid Advances (Advanced result) new
-      → IsCall disk_of e Advances (Advanced result) new
-  raise-begins mid new result same call =
-      let made = subst (λ (x : EndpointValue D). IsCall disk_of x Advances (Advanced result) new) same call in
-      by_result result new made ((made.behaves.advances has.running).goes_on has.busy)
-
-  -- it has begun, without one
+  -- a reservation has begun, without its first device call
   pub raise-begun : (mid : EndpointValue D) → mid ≡ raising → HasBegun disk_of e mid
   raise-begun mid same =
       subst (λ (x : EndpointValue D). HasBegun disk_of e x) (sym same) (record {
         running = has.running;
         busy = has.busy;
-        device = has.device;
-        state = λ logs. inl (begun-state disk_of e kept running idle raise first s has logs);
-        step = λ result later call. raise-begins raising later result refl call;
-        backed = begun-backed disk_of e kept running idle raise first s has;
+        same = λ busy. absurd (busy idle);
+        call = λ nothing. start-call disk_of e running idle (standing_with_raise (standing_in e.store) raise) s has
+            e.under_way (Some raise) (λ logs. inl (begun-state disk_of e kept running idle raise first s has logs))
+            (subst (λ (p : Option Due). BeginsWith e p (Ok Worked) raising) (sym next)
+            (refl, omega (arith, has.left), free))
+            (begun-backed disk_of e kept running idle raise first s has);
+        step = λ result later call.
+            let does = call.behaves.advances has.running in (
+              by_result result later call (does.goes_on has.busy),
+              at-once disk_of e raising later result has.device has.busy (λ nothing. omega (arith, has.left)) does,
+            );
       })
 
 -- ---- nothing begins
 
--- where no device call is made the clock stays
-pub clock-stays : (clock : ℕ) → clock ≤ clock + 1
-clock-stays clock = omega arith
+-- work that is under way has begun
+pub going-begun : {D : Type 0} (disk_of : D → disk.Disk) (e : EndpointValue D) → is_stopped e ≡ false
+    → (¬ IsIdle e.store) → HasBegun disk_of e e
+going-begun disk_of e running busy = record {
+  running = running;
+  busy = busy;
+  same = λ works. refl;
+  call = λ idle. absurd (busy idle);
+  step = λ result later call. (
+    call,
+    at-once disk_of e e later result refl busy (λ idle. absurd (busy idle)) (call.behaves.advances running),
+  );
+}
 
 module _ {D : Type 0} (disk_of : D → disk.Disk) (e : EndpointValue D) (running : is_stopped e ≡ false)
     (idle : IsIdle e.store) where
@@ -252,10 +325,9 @@ module _ {D : Type 0} (disk_of : D → disk.Disk) (e : EndpointValue D) (running
       → other.tx ≡ e.tx → other.rx ≡ e.rx
       → rxsc.channel_counters_of other.rx
       ≡ channel_counters_after (state_of e no_logs) Advances (Advanced result) (rxsc.channel_counters_of e.rx)
-      → ClockAfter (disk_in disk_of e).clock result (disk_in disk_of e).clock
       → (IsBacked disk_of e → IsBacked disk_of (record other { store = e.store }))
       → IsCall disk_of e Advances (Advanced result) (record other { store = e.store })
-  quiet result other steps fails stands begins whose tx rx counted clock backs =
+  quiet result other steps fails stands begins whose tx rx counted backs =
       alone-call disk_of e other Advances (Advanced result) fails backs (record {
         in_range = tt;
         step = λ logs. (logs, inr (running, steps logs));
@@ -263,7 +335,12 @@ module _ {D : Type 0} (disk_of : D → disk.Disk) (e : EndpointValue D) (running
         limited = tt;
         still = still-same e (record other { store = e.store }) result refl;
         ends_work = tt;
-        advances = λ going. record { begins = λ nothing. begins; goes_on = λ busy. absurd (busy idle); one = clock };
+        advances = λ going. record {
+          begins = λ nothing. begins;
+          goes_on = λ busy. absurd (busy idle);
+          one = clock-stays (disk_in disk_of e).clock;
+          clock = λ busy. absurd (busy idle);
+        };
         turn = whose;
         tx_counters = ap txsc.counters_of tx;
         rx_counters = ap rxsc.counters_of rx;
@@ -274,7 +351,7 @@ module _ {D : Type 0} (disk_of : D → disk.Disk) (e : EndpointValue D) (running
   pub idle-call : next_due e ≡ None → IsCall disk_of e Advances (Advanced (Ok Idle)) e
   idle-call none = quiet (Ok Idle) e (λ logs. refl) refl refl
       (subst (λ (p : Option Due). BeginsWith e p (Ok Idle) e) (sym none) refl) refl refl refl refl
-      (clock-stays (disk_in disk_of e).clock) (λ backed. backed)
+      (λ backed. backed)
 
   -- the journal cannot be compacted for a reservation
   pub spent-call : (raise : Raise) → next_due e ≡ Some (ToRaise raise) → IsSpent e.store
@@ -283,7 +360,6 @@ module _ {D : Type 0} (disk_of : D → disk.Disk) (e : EndpointValue D) (running
       quiet (Err step.GenerationsSpent) (record e { turn = turn.Command }) (λ logs. refl) refl refl
       (subst (λ (p : Option Due). BeginsWith e p (Err step.GenerationsSpent) (record e { turn = turn.Command }))
       (sym next) spent) refl refl refl refl
-      (clock-stays (disk_in disk_of e).clock)
       (λ backed. record { size = backed.size; stored = backed.stored; fits = backed.fits; form = backed.form })
 
 -- a device call failed before

@@ -26,7 +26,7 @@ use Rattle.macs_endpoint.specs.Restart.{Fits, state_taking_first}
 use Rattle.macs_endpoint.specs.State.{Accepts, Advanced, Advances, Logs, State, command_made, no_logs}
 use Rattle.macs_endpoint.specs.State.{state_with_under_way}
 use Rattle.macs_endpoint.specs.Step.{AdvanceStep, Ends, TakesUp, state_without_first}
-use Rattle.macs_endpoint.specs.Value.{EndpointValue, IsAtRest, IsBacked, IsKeeping, IsSoundEndpoint, disk_in}
+use Rattle.macs_endpoint.specs.Value.{EndpointValue, IsAtRest, IsBacked, IsKeeping, IsSoundEndpoint}
 use Rattle.macs_endpoint.specs.Value.{is_stopped, state_of}
 use Rattle.macs_endpoint.specs.declared.fault.CommandFault.{CommandFault}
 use Rattle.macs_endpoint.specs.declared.fault.CommandFault.TheVariants as ran
@@ -38,7 +38,7 @@ use Rattle.macs_endpoint.specs.declared.queue.Waiting.{Waiting}
 use Rattle.macs_endpoint.specs.declared.turn.Turn.TheVariants as turn
 use Rattle.macs_endpoint.proofs.Ended.{kept-held, not_stopped}
 use Rattle.macs_endpoint.proofs.Working.{at-rest, kept-backed, some_is}
-use Rattle.macs_endpoint.proofs.Taken.{clock-stays, many-calls, quiet, taken-call}
+use Rattle.macs_endpoint.proofs.Taken.{at-once, many-calls, quiet, start-call, taken-call}
 
 -- ---- which command is the first
 
@@ -212,25 +212,24 @@ module _ {D : Type 0} (disk_of : D → disk.Disk) (e : EndpointValue D) (kept : 
     by_result (Err step.Stopped) new call goes next = absurd goes
     by_result (Err step.GenerationsSpent) new call goes next = absurd goes
 
-    -- the command begins, with its first device call
-    pub keep-begins : (mid new : EndpointValue D) (result : Result Progress StepFault) → mid ≡ keeping
-        → next_due e ≡ Some (ToKeep first)
-        → IsCall disk_of mid Advances (Advanced result) new → IsCall disk_of e Advances (Advanced result) new
-    keep-begins mid new result same next call =
-        let made = subst (λ (x : EndpointValue D). IsCall disk_of x Advances (Advanced result) new) same call in
-        by_result result new made ((made.behaves.advances has.running).goes_on has.busy) next
-
-    -- it has begun, without one
+    -- the command has begun, without its first device call
     pub keep-begun : (mid : EndpointValue D) → mid ≡ keeping → next_due e ≡ Some (ToKeep first)
         → HasBegun disk_of e mid
     keep-begun mid same next =
         subst (λ (x : EndpointValue D). HasBegun disk_of e x) (sym same) (record {
           running = has.running;
           busy = has.busy;
-          device = has.device;
-          state = λ logs. inr (takes logs (state_of keeping logs) refl);
-          step = λ result later call. keep-begins keeping later result refl next call;
-          backed = taken_backed;
+          same = λ busy. absurd (busy idle);
+          call = λ nothing. start-call disk_of e running idle after s has (Some first.command) e.reserving
+              (λ logs. inr (takes logs (state_of keeping logs) refl))
+              (subst (λ (p : Option Due). BeginsWith e p (Ok Worked) keeping) (sym next)
+              (refl, omega (arith, has.left)))
+              taken_backed;
+          step = λ result later call.
+              let does = call.behaves.advances has.running in (
+                by_result result later call (does.goes_on has.busy) next,
+                at-once disk_of e keeping later result has.device has.busy (λ nothing. omega (arith, has.left)) does,
+              );
         })
 
   -- ---- it is refused
@@ -265,7 +264,7 @@ module _ {D : Type 0} (disk_of : D → disk.Disk) (e : EndpointValue D) (kept : 
         (λ logs. (first, others, popped, refl, ends logs)) refl refl
         (subst (λ (p : Option Due). BeginsWith e p (Ok (Done first.ticket (Err at))) without) (sym next) begins) refl
         refl refl refl
-        (clock-stays (disk_in disk_of e).clock) without_backed
+        without_backed
 
     by_fault : (at : CommitFault) (s : store.StoreValue D) → StartsCommit disk_of e.store first.command (Err at) s
         → next_due e ≡ Some (ToKeep first)

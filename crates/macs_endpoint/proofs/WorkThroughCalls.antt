@@ -5,7 +5,7 @@ use Rattle.macs_disk.specs.Disk.{Disk}
 use Rattle.macs_store.specs.Keeps.{most_calls}
 use Rattle.macs_store.specs.Value.{IsIdle, StoreValue, calls_left}
 use Rattle.macs_endpoint.specs.Advancing.{BeginsWith, GoesOn, Due, ToKeep, ToRaise, next_due}
-use Rattle.macs_endpoint.specs.Calls.{AdvancesIn, IsCall, EndsWork}
+use Rattle.macs_endpoint.specs.Calls.{AdvancesIn, IsCall, IsStep, EndsWork}
 use Rattle.macs_endpoint.specs.WorkThroughCalls.{Lasts, steps_in_call, steps_made}
 use Rattle.macs_endpoint.specs.Limits.{IsStill}
 use Rattle.macs_endpoint.specs.Lives.{Lives, Transition}
@@ -124,17 +124,24 @@ module _ {D : Type 0} (disk_of : D → Disk) where
         | inr fewer ↦ omega (arith, fewer, steps_left turns turn.after new lives.2 lasts.2)
       ]
 
+  -- how many steps what is under way takes, with the one that begins it
+  pub work-ends : (old begun new : EndpointValue D) (turns : List (Transition D)) → IsIdle old.store
+      → IsStep disk_of old (Ok Worked) begun
+      → Lives disk_of begun turns new → Lasts begun turns → steps_made turns + 1 ≤ most_calls old.store
+  work-ends old begun new turns idle (call, at_once) lives lasts =
+      omega (arith, at_once.1 idle, steps_left turns begun new lives lasts)
+
   begins_within : (old begun : EndpointValue D) (due : Option Due) → BeginsWith old due (Ok Worked) begun
-      → calls_left begun.store + 1 ≤ most_calls old.store
+      → calls_left begun.store ≤ most_calls old.store
   begins_within old begun None begins = absurd begins
   begins_within old begun (Some (ToRaise raise)) begins = begins.1
   begins_within old begun (Some (ToKeep first)) begins = begins.1
 
-  -- how many steps what is under way takes, with the one that begins it
-  pub work-ends : (old begun new : EndpointValue D) (turns : List (Transition D)) → IsIdle old.store
+  -- the same where it begins without a device call
+  pub begun-ends : (old begun new : EndpointValue D) (turns : List (Transition D)) → IsIdle old.store
       → IsCall disk_of old Advances (Advanced (Ok Worked)) begun
-      → Lives disk_of begun turns new → Lasts begun turns → steps_made turns + 1 ≤ most_calls old.store
-  work-ends old begun new turns idle call lives lasts =
+      → Lives disk_of begun turns new → Lasts begun turns → steps_made turns ≤ most_calls old.store
+  begun-ends old begun new turns idle call lives lasts =
       let running : is_stopped old ≡ false = elim (call.behaves.step no_logs).1 [
         | inl stopped ↦ absurd stopped.1
         | inr runs ↦ runs.0

@@ -73,17 +73,17 @@ turn_after e call reply = e.turn
 -- ---- a step
 
 -- A step of an endpoint that is running and has no work under way: it is idle if nothing is due; otherwise
--- that begins, with its first device call, or is refused before it. Whether that call succeeds or fails, a
+-- that begins, with its first device call or before it, or is refused. Whether that call succeeds or fails, a
 -- command is under way then, and a reservation leaves none under way.
 abbrev pub BeginsWith : {D : Type 0} → EndpointValue D → Option Due → Result Progress StepFault
     → EndpointValue D → Type 0
 BeginsWith old None (Ok Idle) new = new ≡ old
 BeginsWith old (Some (ToRaise raise)) (Ok Worked) new =
-    (new.reserving ≡ Some raise) × (calls_left new.store + 1 ≤ most_calls old.store) × (new.under_way ≡ None)
+    (new.reserving ≡ Some raise) × (calls_left new.store ≤ most_calls old.store) × (new.under_way ≡ None)
 BeginsWith old (Some (ToRaise raise)) (Err step.GenerationsSpent) new = IsSpent old.store
 BeginsWith old (Some (ToRaise raise)) (Err step.Disk) new = new.under_way ≡ None
 BeginsWith old (Some (ToKeep first)) (Ok Worked) new = (new.under_way ≡ Some first.command)
-    × (calls_left new.store + 1 ≤ most_calls old.store)
+    × (calls_left new.store ≤ most_calls old.store)
 BeginsWith old (Some (ToKeep first)) (Ok (Done ticket (Err (ran.Refused refusal)))) new = Unit {0}
 BeginsWith old (Some (ToKeep first)) (Ok (Done ticket (Err ran.GenerationsSpent))) new = IsSpent old.store
 BeginsWith old (Some (ToKeep first)) (Err step.Disk) new = new.under_way ≡ Some first.command
@@ -102,17 +102,25 @@ GoesOn old (Ok (Done ticket (Ok done))) new = ((command : Command) × (old.under
 GoesOn old (Err step.Disk) new = new.under_way ≡ old.under_way
 GoesOn old result new = ⊥
 
--- how far the clock of the disk advances in a step with this answer: by one if the work continued or was done,
--- otherwise by at most one
+-- how far the clock of the disk advances in a step with this answer, of an endpoint with work under way: by one if the
+-- work continued or was done, otherwise by at most one
 abbrev pub ClockAfter : ℕ → Result Progress StepFault → ℕ → Type 0
 ClockAfter old (Ok Worked) new = new ≡ old + 1
 ClockAfter old (Ok Reserved) new = new ≡ old + 1
 ClockAfter old (Ok (Done ticket (Ok done))) new = new ≡ old + 1
 ClockAfter old result new = new ≤ old + 1
 
--- what a step of a running endpoint does
+-- what a step of a running endpoint does, or the first part of one, which begins work and makes no device call
 pub record AdvancesAs {D : Type 0} (disk_of : D → Disk) (old : EndpointValue D) (result : Result Progress StepFault)
     (new : EndpointValue D) : Type 0 where
   pub begins : IsIdle old.store → BeginsWith old (next_due old) result new
   pub goes_on : (¬ IsIdle old.store) → GoesOn old result new
-  pub one : ClockAfter (disk_in disk_of old).clock result (disk_in disk_of new).clock
+  pub one : (disk_in disk_of new).clock ≤ (disk_in disk_of old).clock + 1
+  pub clock : (¬ IsIdle old.store) → ClockAfter (disk_in disk_of old).clock result (disk_in disk_of new).clock
+
+-- a step that begins work makes its first device call at once
+abbrev pub CallsAtOnce : {D : Type 0} → (D → Disk) → EndpointValue D → Result Progress StepFault → EndpointValue D
+    → Type 0
+CallsAtOnce disk_of old (Ok Worked) new = ((disk_in disk_of new).clock ≡ (disk_in disk_of old).clock + 1)
+    × (IsIdle old.store → calls_left new.store + 1 ≤ most_calls old.store)
+CallsAtOnce disk_of old result new = Unit {0}

@@ -1,12 +1,12 @@
 -- One call of an endpoint.
-use Rattle.std.specs.Prelude.{◌≡◌, ◌<◌, ◌^◌, All, Ok, Err, false}
+use Rattle.std.specs.Prelude.{◌≡◌, ◌<◌, ◌^◌, All, Result, Ok, Err, false}
 use Rattle.macs_config.specs.Apply.{IsCommand}
 use Rattle.macs_disk.specs.Disk.{Disk, FailsOnce, IsHonest, Works}
 use Rattle.macs_disk.specs.Runs.{Leaves}
 use Rattle.macs_txsc.specs.Value as txsc
 use Rattle.macs_rxsc.specs.Value as rxsc
 use Rattle.macs_store.specs.Value.{IsIdle, standing_in}
-use Rattle.macs_endpoint.specs.Advancing.{AdvancesAs, turn_after}
+use Rattle.macs_endpoint.specs.Advancing.{AdvancesAs, CallsAtOnce, turn_after}
 use Rattle.macs_endpoint.specs.Ceilings.{CeilingsAfter}
 use Rattle.macs_endpoint.specs.Counting.{channel_counters_after, rx_counters_after, tx_counters_after}
 use Rattle.macs_endpoint.specs.Limits.{IsLimited, IsStill}
@@ -18,7 +18,9 @@ use Rattle.macs_endpoint.specs.Value.{EndpointValue, IsBacked, disk_in, is_stopp
 use Rattle.macs_endpoint.specs.declared.fault.CommandFault.TheVariants as ran
 use Rattle.macs_endpoint.specs.declared.fault.RefillFault.TheVariants as refill
 use Rattle.macs_endpoint.specs.declared.fault.RestFault.TheVariants as rest
+use Rattle.macs_endpoint.specs.declared.fault.StepFault.{StepFault}
 use Rattle.macs_endpoint.specs.declared.fault.StepFault.TheVariants as step
+use Rattle.macs_endpoint.specs.declared.progress.Step.{Step as Progress}
 
 -- ---- the arguments of a call
 
@@ -34,7 +36,7 @@ IsInRange (Receives frame) = All (λ octet. octet < 2 ^ 8) frame
 
 -- ---- on every disk
 
--- what a step of a running endpoint does, if the call is a step
+-- what a step of a running endpoint does, or the first part of one, if the call is a step
 abbrev pub AdvancesIn : {D : Type 0} → (D → Disk) → EndpointValue D → Call → Reply → EndpointValue D → Type 0
 AdvancesIn disk_of old Advances (Advanced result) new = is_stopped old ≡ false → AdvancesAs disk_of old result new
 AdvancesIn disk_of old call reply new = Unit {0}
@@ -101,3 +103,8 @@ pub record IsCall {D : Type 0} (disk_of : D → Disk) (old : EndpointValue D) (c
   pub behaves : CallBehaves disk_of old call reply new
   pub device : DeviceCalls disk_of old reply new
   pub survives : IsHonest (disk_in disk_of new) → IsBacked disk_of old → Survives disk_of old call new
+
+-- a step, as one call: if it begins work it makes the first device call of that
+abbrev pub IsStep : {D : Type 0} → (D → Disk) → EndpointValue D → Result Progress StepFault → EndpointValue D → Type 0
+IsStep disk_of old result new =
+    IsCall disk_of old Advances (Advanced result) new × CallsAtOnce disk_of old result new

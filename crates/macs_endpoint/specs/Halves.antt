@@ -7,10 +7,9 @@ use Rattle.macs_disk.specs.declared.device_call.DeviceCall.{DeviceCall}
 use Rattle.macs_disk.specs.declared.disk.DeviceFault.{DeviceFault}
 use Rattle.macs_store.specs.Halves as store
 use Rattle.macs_store.specs.Value.{IsIdle}
-use Rattle.macs_endpoint.specs.Calls.{IsCall}
-use Rattle.macs_endpoint.specs.State.{Advanced, Advances, Logs}
-use Rattle.macs_endpoint.specs.Step.{AdvanceStep}
-use Rattle.macs_endpoint.specs.Value.{EndpointValue, IsBacked, device_in, disk_in, is_stopped, state_of}
+use Rattle.macs_endpoint.specs.Calls.{IsCall, IsStep}
+use Rattle.macs_endpoint.specs.State.{Advanced, Advances}
+use Rattle.macs_endpoint.specs.Value.{EndpointValue, device_in, disk_in, is_stopped}
 use Rattle.macs_endpoint.specs.declared.fault.StepFault.{StepFault}
 use Rattle.macs_endpoint.specs.declared.progress.Step.{Step as Progress}
 use Rattle.macs_endpoint.specs.declared.progress.Step.TheVariants.{Worked}
@@ -23,17 +22,15 @@ IsNextCall e asked = store.IsNextCall e.store asked
 abbrev pub with_device : {D : Type 0} → EndpointValue D → D → EndpointValue D
 with_device e device = record e { store = store.with_device e.store device }
 
--- Work is under way, that of before or what was due, and no device call was made. To the machine it is a step that
--- worked. The step that a device call makes of it is one of the endpoint before it began. The disk holds what is in
--- memory, as before.
+-- Work is under way. If it was under way before nothing changed; otherwise what was due has begun, which is a call like
+-- any other, that returns Worked. Either way, what the next device call makes of it is a step of the endpoint before.
 pub record HasBegun {D : Type 0} (disk_of : D → Disk) (old new : EndpointValue D) : Type 0 where
   pub running : is_stopped new ≡ false
   pub busy : ¬ IsIdle new.store
-  pub device : device_in new ≡ device_in old
-  pub state : (logs : Logs) → AdvanceStep (state_of old logs) (Ok Worked) (state_of new logs)
+  pub same : (¬ IsIdle old.store) → new ≡ old
+  pub call : IsIdle old.store → IsCall disk_of old Advances (Advanced (Ok Worked)) new
   pub step : (result : Result Progress StepFault) (later : EndpointValue D)
-      → IsCall disk_of new Advances (Advanced result) later → IsCall disk_of old Advances (Advanced result) later
-  pub backed : IsBacked disk_of old → IsBacked disk_of new
+      → IsCall disk_of new Advances (Advanced result) later → IsStep disk_of old result later
 
 -- What an endpoint makes of the answer of its next device call. Nothing is called. If the call was made, and led from
 -- any device before to the present one, this is a step from there.

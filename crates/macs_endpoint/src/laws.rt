@@ -10,7 +10,7 @@ ghost use Rattle.macs_rxsc.specs.declared.verdict.Verdict.TheVariants.{HeldBack}
 ghost use Rattle.macs_store.specs.Keeps.{most_calls};
 ghost use Rattle.macs_store.specs.Value.{IsIdle, standing_in};
 ghost use Rattle.macs_endpoint.specs.Advancing.{ToRaise, next_due};
-ghost use Rattle.macs_endpoint.specs.Calls.{IsCall};
+ghost use Rattle.macs_endpoint.specs.Calls.{IsCall, IsStep};
 ghost use Rattle.macs_endpoint.specs.Ceilings.{Raise, standing_with_raise};
 ghost use Rattle.macs_endpoint.specs.Value.{EndpointValue, IsBacked, IsSoundEndpoint, disk_in};
 ghost use Rattle.macs_endpoint.specs.Value.{is_stopped, state_of};
@@ -120,12 +120,16 @@ pub fn frames_not_held_back<D: SectorDisk>()
 ///
 /// From the step that begins it to the one that ends it, both included, there are at most 4; or, if
 /// all 256 slots of the journal's current area are used when it begins, 523 plus one for each
-/// record of the snapshot. Any other calls may come between; no device call fails.
+/// record of the snapshot. After a `begin` there are at most as many. Any other calls may come
+/// between; no device call fails.
 pub fn work_ends<D: SectorDisk>()
-    ensures { (old begun new : EndpointValue D) (turns : List (Transition D)) → IsIdle old.store
-        → IsCall D.disk old Advances (Advanced (Ok Worked)) begun → Lives D.disk begun turns new
-        → Lasts begun turns
-        → steps_made turns + 1 ≤ most_calls old.store }
+    ensures stepped { (old begun new : EndpointValue D) (turns : List (Transition D))
+        → IsIdle old.store → IsStep D.disk old (Ok Worked) begun → Lives D.disk begun turns new
+        → Lasts begun turns → steps_made turns + 1 ≤ most_calls old.store }
+    ensures begun { (old begun new : EndpointValue D) (turns : List (Transition D))
+        → IsIdle old.store → IsCall D.disk old Advances (Advanced (Ok Worked)) begun
+        → Lives D.disk begun turns new → Lasts begun turns
+        → steps_made turns ≤ most_calls old.store }
 {}
 
 /// A reservation raises the ceiling that was needed first when it began, even if frames arrived

@@ -3,14 +3,14 @@
 ghost use Rattle.std.specs.Prelude.{◌≡◌, Some, None, IfSome, false};
 ghost use Rattle.std.specs.Option.{option_map};
 ghost use Rattle.macs_store.specs.Value.{IsIdle};
-ghost use Rattle.macs_endpoint.specs.Advancing.{ToKeep, ToRaise, next_due};
-ghost use Rattle.macs_endpoint.specs.Calls.{IsCall};
+ghost use Rattle.macs_endpoint.specs.Advancing.{CallsAtOnce, ToKeep, ToRaise, next_due};
+ghost use Rattle.macs_endpoint.specs.Calls.{IsCall, IsStep};
 ghost use Rattle.macs_endpoint.specs.Halves.{HasBegun};
 ghost use Rattle.macs_endpoint.specs.KeptCommands.{StartsFirst};
 ghost use Rattle.macs_endpoint.specs.PrivateTypes.{due_of, raise_of};
 ghost use Rattle.macs_endpoint.specs.Queue.{first_waiting};
 ghost use Rattle.macs_endpoint.specs.State.{Advanced, Advances, Submits, Submitted};
-ghost use Rattle.macs_endpoint.specs.Value.{is_stopped};
+ghost use Rattle.macs_endpoint.specs.Value.{device_in, is_stopped};
 
 use crate::endpoint::Endpoint;
 use crate::fault::{CommandFault, StepFault, SubmitFault};
@@ -56,6 +56,7 @@ impl<D: SectorDisk> Endpoint<D> {
     /// opening finds what was under way or not.
     pub fn step(&mut self) -> Result<Step, StepFault>
         ensures call { IsCall D.disk self.old Advances (Advanced result) self.new }
+        ensures at_once { CallsAtOnce D.disk self.old result self.new }
     {
         if let Some(answer) = self.begin() {
             return answer;
@@ -71,11 +72,12 @@ impl<D: SectorDisk> Endpoint<D> {
     /// Begins what is due, unless work is under way, and makes no device call: the first part of a
     /// `step`. `None` if work is under way then: `next_call` returns the call that it needs.
     /// Otherwise the answer of a step that is complete without one: `Stopped`, `Idle`, `Done` with
-    /// a command that is not kept, or `GenerationsSpent`.
+    /// a command that is not kept, or `GenerationsSpent`. If it begins work, that is a call like
+    /// any other, which returns `Worked`; if work was under way already nothing changes.
     pub fn begin(&mut self) -> Option<Result<Step, StepFault>>
-        ensures ended { IfSome result
-            (λ answer. IsCall D.disk self.old Advances (Advanced answer) self.new) }
+        ensures ended { IfSome result (λ answer. IsStep D.disk self.old answer self.new) }
         ensures begun { result ≡ None → HasBegun D.disk self.old self.new }
+        ensures device { device_in self.new ≡ device_in self.old }
     {
         if self.is_stopped() {
             return Some(Err(StepFault::Stopped));
@@ -110,9 +112,9 @@ impl<D: SectorDisk> Endpoint<D> {
         requires running { is_stopped self.old ≡ false }
         requires idle { IsIdle self.old.store }
         requires next { next_due self.old ≡ Some (ToRaise (raise_of raise)) }
-        ensures ended { IfSome result
-            (λ answer. IsCall D.disk self.old Advances (Advanced answer) self.new) }
+        ensures ended { IfSome result (λ answer. IsStep D.disk self.old answer self.new) }
         ensures begun { result ≡ None → HasBegun D.disk self.old self.new }
+        ensures device { device_in self.new ≡ device_in self.old }
     {
         if self.start_raise(raise).is_err() {
             self.turn = Turn::Command;
@@ -126,9 +128,9 @@ impl<D: SectorDisk> Endpoint<D> {
         requires running { is_stopped self.old ≡ false }
         requires idle { IsIdle self.old.store }
         requires next { next_due self.old ≡ Some (ToKeep first) }
-        ensures ended { IfSome result
-            (λ answer. IsCall D.disk self.old Advances (Advanced answer) self.new) }
+        ensures ended { IfSome result (λ answer. IsStep D.disk self.old answer self.new) }
         ensures begun { result ≡ None → HasBegun D.disk self.old self.new }
+        ensures device { device_in self.new ≡ device_in self.old }
     {
         command_in_range(&first.command);
         if let Err(fault) = self.start_first(first) {

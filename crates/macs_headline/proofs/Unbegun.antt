@@ -1,13 +1,13 @@
 -- A step in which no command begins: what a power loss inside it leaves fits the state before it.
 use Rattle.std.proofs.lemmas.Bool.{cases_Bool, cases_lt}
-use Rattle.std.proofs.Common.{◌≡◌, ◌≤◌, ◌+◌, le_refl, ◌⊎◌, ◌&&◌, inl, inr, ℕ, Bool, true, false, cond, not, List, []}
+use Rattle.std.proofs.Common.{◌≡◌, le_refl, ◌⊎◌, ◌&&◌, inl, inr, ℕ, Bool, true, false, cond, not, List, []}
 use Rattle.std.proofs.Common.{◌∷◌, Option, Some, None, Result, Ok, Err, is_ok, refl, sym, ◌∙◌, ap, subst, arith}
 use Rattle.macs_config.specs.Apply.{apply}
 use Rattle.macs_config.specs.Config.{this_edition}
 use Rattle.macs_config.specs.declared.command.Command.{Command}
 use Rattle.macs_disk.specs.Disk.{Disk, IsHonest, LeftSince}
 use Rattle.macs_disk.specs.States.{DiskState, Image, IsImage}
-use Rattle.macs_endpoint.specs.Advancing.{BeginsWith, ClockAfter, GoesOn, Due, ToKeep, ToRaise, next_due}
+use Rattle.macs_endpoint.specs.Advancing.{BeginsWith, GoesOn, Due, ToKeep, ToRaise, next_due}
 use Rattle.macs_endpoint.specs.Advancing.{due_among}
 use Rattle.macs_endpoint.specs.Calls.{IsCall}
 use Rattle.macs_endpoint.specs.Ceilings.{Raise}
@@ -72,15 +72,6 @@ begun_state old new logs later raise (Err advance.Disk) begins (inr (mid, takes,
 begun_state old new logs later raise (Err advance.GenerationsSpent) begins step = inl step
 begun_state old new logs later raise (Err advance.Stopped) begins step = absurd step
 
--- a step makes one device call at most
-one_call : (old : ℕ) (result : Result Progress StepFault) (new : ℕ) → ClockAfter old result new → new ≤ old + 1
-one_call old (Ok Idle) new one = one
-one_call old (Ok Worked) new one = omega (arith, one)
-one_call old (Ok Reserved) new one = omega (arith, one)
-one_call old (Ok (Done ticket (Ok done))) new one = omega (arith, one)
-one_call old (Ok (Done ticket (Err fault))) new one = one
-one_call old (Err fault) new one = one
-
 module _ {D : Type 0} (disk_of : D → Disk) (last after : EndpointValue D) (logs : Logs)
     (running : is_stopped last ≡ false)
     (honest : IsHonest (disk_in disk_of last)) (backed : IsBacked disk_of last) (image : Image)
@@ -95,8 +86,7 @@ module _ {D : Type 0} (disk_of : D → Disk) (last after : EndpointValue D) (log
   left_still result is later step (k, from, to, left) =
       let old = disk_in disk_of last in
       let new = disk_in disk_of after in
-      let does = is.behaves.advances running in
-      let most : new.clock ≤ old.clock + 1 = one_call old.clock result new.clock does.one in
+      let most = (is.behaves.advances running).one in
       elim (cases_lt old.clock k) [
         | inr early ↦
             let same : k ≡ old.clock = omega (arith, from, early) in
