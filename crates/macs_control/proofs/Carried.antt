@@ -1,8 +1,8 @@
 -- What a connection carries, part after part.
-use Rattle.std.proofs.Common.{◌≡◌, ◌∙◌, ◌<◌, ◌++◌, ◌||◌, ℕ, Bool, true, false, List, [], Option, Some, None, refl, sym, ap}
-use Rattle.std.proofs.Common.{subst, length}
+use Rattle.std.proofs.Common.{◌≡◌, ◌∙◌, ◌<◌, ◌++◌, ℕ, true, List, [], Option, Some, None, refl, sym, ap}
+use Rattle.std.proofs.Common.{length}
 use Rattle.std.proofs.lemmas.List.{append-nil, append_assoc}
-use Rattle.macs_control.specs.Asking.{Conversation, Reads, ReadsAndFinds, conversation}
+use Rattle.macs_control.specs.Asking.{Reads, ReadsAndFinds, conversation}
 use Rattle.macs_control.specs.Keepers.{IsCut, IsCutAfter, Takes, TakesLast}
 use Rattle.macs_control.specs.Links.{Fills, Link}
 use Rattle.macs_control.specs.declared.connection.Taken.{Taken}

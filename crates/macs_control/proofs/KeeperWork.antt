@@ -1,5 +1,5 @@
 -- The work of a keeper, request after request.
-use Rattle.std.proofs.Common.{◌≡◌, ◌++◌, ℕ, Bool, true, false, List, [], ◌∷◌, Option, refl, sym, subst, Result}
+use Rattle.std.proofs.Common.{◌≡◌, ◌++◌, ℕ, Bool, true, List, [], ◌∷◌, Option, refl, subst, Result}
 use Rattle.macs_disk.specs.DeviceCalls.{IsMade, IsWithin}
 use Rattle.macs_disk.specs.Disk.{Disk}
 use Rattle.macs_disk.specs.Messages.{answer_octets, answer_to, greeting_octets, request_of}
@@ -38,10 +38,14 @@ pub made-one : (before : Disk) (old : Option Link) (call : DeviceCall) (read : L
     (new : Option Link)
     → IsMade before after call read result → answer ≡ answer_to call read result → octets ≡ answer_octets answer
     → sent ≡ octets → GivesOctets old new sent whole → MakesOne before old call whole after new
-made-one before old call read result answer octets sent whole after new made is are same gives =
-    (read, result, made, (
+made-one before old call read result answer octets sent whole after new made is are same gives = (
+  read,
+  result,
+  made,
+  (
       let P : List ℕ → Type 0 = λ o. GivesOctets old new o whole in
-      subst (λ (a : CallAnswer). P (answer_octets a)) is (subst P are (subst P same gives))))
+      subst (λ (a : CallAnswer). P (answer_octets a)) is (subst P are (subst P same gives))),
+)
 
 -- with its request
 pub makes : (before : Disk) (old mid : Option Link) (call : DeviceCall) (whole : Bool) (after : Disk)

@@ -1,5 +1,5 @@
 -- Calls of a disk that a keeper keeps.
-use Rattle.std.proofs.Common.{◌≡◌, ◌∙◌, ◌-◌, ◌^◌, ◌==◌, ◌||◌, ◌++◌, ℕ, Bool, true, false, List, [], ◌∷◌, Option, Some}
+use Rattle.std.proofs.Common.{◌≡◌, ◌∙◌, ◌-◌, ◌^◌, ◌==◌, ◌||◌, ℕ, Bool, true, false, List, [], ◌∷◌, Option, Some}
 use Rattle.std.proofs.Common.{None, Result, Ok, Err, IfSome, IsErr, OnErr, OnOk, refl, sym, ap, subst, length, arith}
 use Rattle.std.proofs.lemmas.List.{append-nil}
 use Rattle.macs_disk.specs.DeviceCalls.{IsMade}
@@ -12,7 +12,7 @@ use Rattle.macs_disk.specs.declared.device_call.DeviceCall.TheVariants.{Read, Wr
 use Rattle.macs_disk.specs.declared.disk.DeviceFault.{DeviceFault}
 use Rattle.macs_disk.specs.declared.messages.answer.CallAnswer.TheVariants.{Sector, Done, Failed}
 use Rattle.macs_disk.proofs.ReadBack.{front, size-of-zeros}
-use Rattle.macs_control.specs.Asking.{Conversation, Reads, ReadsAndFinds, Sends, SendsSome}
+use Rattle.macs_control.specs.Asking.{Conversation, Reads, Sends, SendsSome}
 use Rattle.macs_control.specs.KeptDisks.{EndsCall, Exchanges, Hears, IsNoAnswer, IsUnheard, KeptDiskValue, SendsCall}
 use Rattle.macs_control.specs.KeptDisks.{Talks, done_answer, is_stopped, kept_disk}
 use Rattle.macs_control.proofs.Asked.{finds-more, reads-more, reads-none, sends-none}

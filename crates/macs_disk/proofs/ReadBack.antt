@@ -1,5 +1,5 @@
 -- What is read from a message is what was written there.
-use Rattle.std.proofs.Common.{◌≡◌, ◌∙◌, ◌<◌, ◌≤◌, ◌^◌, ◌∷◌, ◌++◌, ℕ, List, [], Option, Some, None, false, true, refl, sym, ap}
+use Rattle.std.proofs.Common.{◌≡◌, ◌∙◌, ◌<◌, ◌^◌, ◌∷◌, ◌++◌, ℕ, List, Option, Some, None, false, true, sym, ap}
 use Rattle.std.proofs.Common.{arith, length, take}
 use Rattle.std.proofs.lemmas.List.{length-replicate, take_all}
 use Rattle.std.proofs.lemmas.Nat.{from_be_bytes-to_be_bytes_8}

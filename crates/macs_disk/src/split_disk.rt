@@ -35,11 +35,7 @@ pub trait SplitDisk: SectorDisk {
 
     /// The answer to a call, once. `None` as long as it is not there, or if another call was sent
     /// or none. A read puts the sector into `read`.
-    fn answer(
-        &mut self,
-        call: &DeviceCall,
-        read: &mut [u8; 512],
-    ) -> Option<Result<(), DeviceFault>>
+    fn answer(&mut self, call: &DeviceCall, read: &mut [u8; 512]) -> Option<Result<(), DeviceFault>>
         requires { IsWithin (Self.disk self.old).sectors call.now }
         ensures waits { result ≡ None → IsUnanswered (asked self.old) (Self.disk self.old)
             (asked self.new) (Self.disk self.new) }

@@ -53,11 +53,7 @@ impl<C: Waits> Model for KeptDisk<C> {
 
 /// What octets say of a call, whose sector is put into `read` if they have one. Whatever does not
 /// say that it is done is a fault.
-fn end_of(
-    octets: &[u8],
-    call: &DeviceCall,
-    read: &mut [u8; 512],
-) -> Result<(), DeviceFault>
+fn end_of(octets: &[u8], call: &DeviceCall, read: &mut [u8; 512]) -> Result<(), DeviceFault>
     ensures done { OnOk result
         (octets.now ≡ answer_octets (done_answer call.now read.new)) }
     ensures fault { OnErr result (IsNoAnswer call.now octets.now) }
@@ -132,11 +128,7 @@ impl<C: Waits> KeptDisk<C> {
     }
 
     /// Looks once for the answer to a call.
-    fn look(
-        &mut self,
-        call: &DeviceCall,
-        read: &mut [u8; 512],
-    ) -> Option<Result<(), DeviceFault>>
+    fn look(&mut self, call: &DeviceCall, read: &mut [u8; 512]) -> Option<Result<(), DeviceFault>>
         ensures rest { self.new ≡ record self.old { talk = self.new.talk } }
         ensures none { result ≡ None → ReadsOctets self.old.talk [] self.new.talk }
         ensures some { IfSome result
@@ -202,11 +194,7 @@ impl<C: Waits> KeptDisk<C> {
     }
 
     /// Waits for the answer to a call that was sent.
-    fn await_answer(
-        &mut self,
-        call: &DeviceCall,
-        read: &mut [u8; 512],
-    ) -> Result<(), DeviceFault>
+    fn await_answer(&mut self, call: &DeviceCall, read: &mut [u8; 512]) -> Result<(), DeviceFault>
         requires { IsWithin self.old.sectors call.now }
         ensures { EndsCall self.old call.now read.new result self.new }
     {
@@ -223,11 +211,7 @@ impl<C: Waits> KeptDisk<C> {
     }
 
     /// Makes a call, and waits for its answer. It fails if another call waits for its own.
-    fn exchange(
-        &mut self,
-        call: &DeviceCall,
-        read: &mut [u8; 512],
-    ) -> Result<(), DeviceFault>
+    fn exchange(&mut self, call: &DeviceCall, read: &mut [u8; 512]) -> Result<(), DeviceFault>
         requires { IsWithin self.old.sectors call.now }
         ensures { Exchanges self.old call.now read.new result self.new }
     {
@@ -318,11 +302,7 @@ impl<C: Waits> SplitDisk for KeptDisk<C> {
     }
 
     /// Each call looks once at the connection, and does not wait.
-    fn answer(
-        &mut self,
-        call: &DeviceCall,
-        read: &mut [u8; 512],
-    ) -> Option<Result<(), DeviceFault>>
+    fn answer(&mut self, call: &DeviceCall, read: &mut [u8; 512]) -> Option<Result<(), DeviceFault>>
         requires { IsWithin (kept_disk self.old).sectors call.now }
         ensures waits { result ≡ None → IsUnanswered self.old.asked (kept_disk self.old)
             self.new.asked (kept_disk self.new) }

@@ -26,10 +26,7 @@ pub(crate) fn take_part<C: Connection, const N: usize>(
 }
 
 /// Takes more of a message, and waits for it. Fails with `Ended` or `Gone` if no more comes.
-fn take_more<C: Waits, const N: usize>(
-    from: &mut C,
-    held: &mut ArrayVec<u8, N>,
-) -> Result<(), Cut>
+fn take_more<C: Waits, const N: usize>(from: &mut C, held: &mut ArrayVec<u8, N>) -> Result<(), Cut>
     ensures more { (start : Option Link) → Takes start held.old.items (C.link from.old)
         → OnOk result (Takes start held.new.items (C.link from.new)) }
     ensures cut { (start : Option Link) → Takes start held.old.items (C.link from.old)
@@ -37,13 +34,7 @@ fn take_more<C: Waits, const N: usize>(
 {
     match take_part(from, held) {
         Taken::Octets(_) => Ok(()),
-        Taken::Nothing => {
-            if from.wait() {
-                Ok(())
-            } else {
-                Err(Cut::Gone)
-            }
-        }
+        Taken::Nothing => { if from.wait() { Ok(()) } else { Err(Cut::Gone) } }
         Taken::Ended => Err(Cut::Ended),
         Taken::Gone => Err(Cut::Gone),
     }

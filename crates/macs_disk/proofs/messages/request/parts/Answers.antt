@@ -1,4 +1,4 @@
-use Rattle.std.proofs.Common.{ap, drop, refl, ◌∙◌}
+use Rattle.std.proofs.Common.{ap, drop, ◌∙◌}
 use Rattle.macs_disk.proofs.ReadBack.{front, number-back, sector-back, three}
 use Rattle.macs_disk.proofs.messages.request.parts.Goals as goal
 
