@@ -20,7 +20,8 @@ use Rattle.macs_control.proofs.Asked.{finds-more, reads-more, reads-none, sends-
 -- ---- octets that say nothing of a call
 
 pub nothing-said : (call : DeviceCall) → IsNoAnswer call []
-nothing-said call read size is = let e : [] ≡ octet_of (done_answer call read) ∷ octets_in (done_answer call read) = is in
+nothing-said call read size is =
+    let e : [] ≡ octet_of (done_answer call read) ∷ octets_in (done_answer call read) = is in
     cc
 
 other-kind : (kind : ℕ) (rest octets : List ℕ) (call : DeviceCall) → octets ≡ kind ∷ rest

@@ -1,6 +1,7 @@
 -- What a keeper does for its client: a greeting, and then for each request, one after another, one call of the disk and
 -- one answer.
-use Rattle.std.specs.Prelude.{◌≡◌, ◌<◌, ◌++◌, ⊤, ℕ, Bool, true, false, List, [], ◌∷◌, length, Option, Some, None, Result}
+use Rattle.std.specs.Prelude.{◌≡◌, ◌<◌, ◌++◌, ⊤, ℕ, Bool, true, false, List, [], ◌∷◌, length, Option, Some, None}
+use Rattle.std.specs.Prelude.{Result}
 use Rattle.macs_disk.specs.Disk.{Disk}
 use Rattle.macs_disk.specs.DeviceCalls.{IsCall, IsMade, IsWithin}
 use Rattle.macs_disk.specs.Messages.{answer_octets, answer_to, greeting_octets, request_of}

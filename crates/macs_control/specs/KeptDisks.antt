@@ -1,5 +1,6 @@
 -- A disk that a keeper keeps, as its client knows it.
-use Rattle.std.specs.Prelude.{◌≡◌, ◌-◌, ◌^◌, ◌==◌, ◌||◌, ℕ, Bool, true, false, List, [], length, Option, None, Some, Result}
+use Rattle.std.specs.Prelude.{◌≡◌, ◌-◌, ◌^◌, ◌==◌, ◌||◌, ℕ, Bool, true, false, List, [], length, Option, None, Some}
+use Rattle.std.specs.Prelude.{Result}
 use Rattle.std.specs.Prelude.{Ok, Err, IsErr, OnErr}
 use Rattle.macs_disk.specs.Disk.{Disk, IsDeviceCall}
 use Rattle.macs_disk.specs.Messages.{answer_octets, answer_to, greeting_octets, request_of}

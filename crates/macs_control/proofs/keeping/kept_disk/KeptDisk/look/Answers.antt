@@ -6,7 +6,8 @@ use Rattle.macs_control.proofs.keeping.kept_disk.KeptDisk.look.Goals as goal
 
 pub returns-in-Octets-clause-some : goal.returns-in-Octets-clause-some
 returns-in-Octets-clause-some g c =
-    let part = heard-part _ _ _ _ c.take_part.result (λ is. let e = sym c.in-Octets.is ∙ is in cc) c.take_part.ensures in
+    let part = heard-part _ _ _ _ c.take_part.result (λ is. let e = sym c.in-Octets.is ∙ is in
+    cc) c.take_part.ensures in
     rw (← c.self.view_is) (hears-if-later _ _ _ c.args.call.now _ c.take_answer.result part c.take_answer.ensures.some)
 
 pub returns-in-Ended-clause-some : goal.returns-in-Ended-clause-some
