@@ -13,3 +13,6 @@ pub mod Reported
 pub mod Queued
 pub mod Served
 pub mod ServedClients
+pub mod Carried
+pub mod KeeperWork
+pub mod KeptCalls

@@ -20,3 +20,5 @@ pub mod Replies
 pub mod Listening
 pub mod Serving
 pub mod LastGood
+pub mod Keepers
+pub mod KeptDisks

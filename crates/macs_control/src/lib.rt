@@ -11,6 +11,7 @@ pub mod desk;
 mod door;
 mod ending;
 mod finding;
+pub mod keeping;
 pub mod laws;
 mod local_address;
 mod metrics_file;

@@ -28,6 +28,12 @@ fn timeout(milliseconds: u16) -> i32
     i32::from(milliseconds)
 }
 
+/// Waits until a socket is readable or has ended, for at most this many milliseconds. Returns
+/// whether it is. If the call fails it is not.
+pub(crate) fn wait_for(socket: RawFd, milliseconds: u16) -> bool {
+    poll(&mut [readable(socket)], timeout(milliseconds)) > 0
+}
+
 /// The sockets of both wires.
 #[derive(Clone, Copy)]
 pub struct Wires {

@@ -4,6 +4,7 @@ pub mod Calls
 mod BlownWrites
 mod MissedCalls
 mod RemoteCalls
+pub mod ReadBack
 mod Kept
 mod ListedCalls
 mod Blank

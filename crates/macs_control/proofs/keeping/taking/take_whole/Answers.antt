@@ -1,0 +1,25 @@
+use Rattle.macs_control.proofs.Carried.{cut-within, takes-none}
+use Rattle.macs_control.proofs.keeping.taking.take_whole.Goals as goal
+
+pub loop-look-init : goal.loop-look-init
+loop-look-init g c =
+    rw c.nothing_held-held.ensures
+    (record { few = c.requires; takes = takes-none (g.C.Connection.link c.args.from.now) })
+
+pub returns-in-Err-clause-cut : goal.returns-in-Err-clause-cut
+returns-in-Err-clause-cut g c =
+    cut-within g.row.N (g.C.Connection.link c.args.from.now) _ c.in-Err.cut _ c.loop-look.invariant.few
+    (c.in-Err.ensures.cut _ c.loop-look.invariant.takes)
+
+pub returns-then-is_whole-clause-whole : goal.returns-then-is_whole-clause-whole
+returns-then-is_whole-clause-whole g c =
+    (c.is_whole.ensures.whole c.if-is_whole.true, c.in-Ok.ensures.more _ c.loop-look.invariant.takes)
+
+pub loop-look-preserved : goal.loop-look-preserved
+loop-look-preserved g c = record {
+  few = c.is_whole.ensures.part c.if-is_whole.false;
+  takes = c.in-Ok.ensures.more _ c.loop-look.invariant.takes;
+}
+
+pub returns-clause-cut : goal.returns-clause-cut
+returns-clause-cut g c = (c.loop-look.held.items, c.loop-look.invariant.takes)

@@ -1,0 +1,13 @@
+//! A disk that a process of its own keeps: the keeper makes the device calls that its client sends,
+//! and the client goes on with frames until the answer is there.
+
+mod cut;
+mod keeper;
+mod kept_disk;
+mod taking;
+mod waiting;
+
+pub use cut::Cut;
+pub use keeper::{KeepEnd, keep_for};
+pub use kept_disk::KeptDisk;
+pub use waiting::{ClientStream, Waits};

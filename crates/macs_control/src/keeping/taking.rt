@@ -1,0 +1,77 @@
+//! Messages of one length, taken from a connection.
+
+ghost use Rattle.std.specs.Prelude.{◌≡◌, ◌<◌, [], length, true, false, IfErr, IfOk, OnOk, Option};
+ghost use Rattle.macs_control.specs.Links.{Fills, Link};
+ghost use Rattle.macs_control.specs.Keepers.{IsCut, IsCutAfter, Takes};
+
+use crate::connection::{Connection, Taken};
+use crate::keeping::cut::Cut;
+use crate::keeping::waiting::Waits;
+use arrayvec::ArrayVec;
+
+/// Takes what arrived of a message.
+pub(crate) fn take_part<C: Connection, const N: usize>(
+    from: &mut C,
+    held: &mut ArrayVec<u8, N>,
+) -> Taken
+    ensures { Fills held.old.items (C.link from.old) result held.new.items (C.link from.new) }
+{
+    let mut octets = [0; N];
+    let part = &mut octets[..held.remaining_capacity()];
+    let taken = from.take_into(part);
+    if let Taken::Octets(count) = taken {
+        held.try_extend_from_slice(&part[..count]).unwrap();
+    }
+    taken
+}
+
+/// Takes more of a message, and waits for it. Fails with `Ended` or `Gone` if no more comes.
+fn take_more<C: Waits, const N: usize>(from: &mut C, held: &mut ArrayVec<u8, N>) -> Result<(), Cut>
+    ensures more { (start : Option Link) → Takes start held.old.items (C.link from.old)
+        → OnOk result (Takes start held.new.items (C.link from.new)) }
+    ensures cut { (start : Option Link) → Takes start held.old.items (C.link from.old)
+        → IfErr result (λ cut. IsCutAfter held.old.items start cut (C.link from.new)) }
+{
+    match take_part(from, held) {
+        Taken::Octets(_) => Ok(()),
+        Taken::Nothing => { if from.wait() { Ok(()) } else { Err(Cut::Gone) } }
+        Taken::Ended => Err(Cut::Ended),
+        Taken::Gone => Err(Cut::Gone),
+    }
+}
+
+/// A message of which nothing has arrived.
+fn nothing_held<const N: usize>() -> ArrayVec<u8, N>
+    ensures { result.items ≡ [] }
+{
+    ArrayVec::new()
+}
+
+/// Whether a message is whole.
+pub(crate) fn is_whole<const N: usize>(held: &ArrayVec<u8, N>) -> bool
+    ensures whole { result ≡ true → length held.now.items ≡ N }
+    ensures part { result ≡ false → length held.now.items < N }
+{
+    held.is_full()
+}
+
+/// Takes a whole message, and waits for it. Fails with `Ended` or `Gone` if it does not come; a
+/// part of it may have been taken.
+pub(crate) fn take_whole<C: Waits, const N: usize>(from: &mut C) -> Result<ArrayVec<u8, N>, Cut>
+    requires { 0 < N }
+    ensures whole { IfOk result (λ octets. (length octets.items ≡ N)
+        × Takes (C.link from.old) octets.items (C.link from.new)) }
+    ensures cut { IfErr result (λ cut. IsCut N (C.link from.old) cut (C.link from.new)) }
+{
+    let mut held = nothing_held();
+    for _look in 0..u64::MAX {
+        match take_more(from, &mut held) {
+            Ok(()) => {}
+            Err(cut) => return Err(cut),
+        }
+        if is_whole(&held) {
+            return Ok(held);
+        }
+    }
+    Err(Cut::Gone)
+}
