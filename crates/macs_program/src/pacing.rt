@@ -30,11 +30,7 @@ pub fn is_planned(pace: Pace) -> bool
 {
     match pace {
         Pace::Waiting { turns: None, .. } => true,
-        Pace::Waiting {
-            turns: Some(_),
-            ..
-        }
-        | Pace::Sleepless { .. } => false,
+        Pace::Waiting { turns: Some(_), .. } | Pace::Sleepless { .. } => false,
     }
 }
 

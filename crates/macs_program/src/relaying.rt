@@ -14,14 +14,7 @@ ghost use Rattle.macs_program.specs.Summing.{relay_line};
 
 use crate::pacing::{is_planned, turns_of};
 use macs_cli::{
-    Failure,
-    Line,
-    Pace,
-    Status,
-    Stream,
-    append_count,
-    failure_of_refill,
-    print_octets,
+    Failure, Line, Pace, Status, Stream, append_count, failure_of_refill, print_octets,
 };
 use macs_disk::SectorDisk;
 use macs_edge::{Desk, RelaySummary, Wire, attend};

@@ -19,7 +19,9 @@ pub(crate) const MARK: [u8; 4] = *b"MREC";
 pub fn encode(value: &Record) -> [u8; SECTOR]
     ensures { result ≡ sector_of value.now }
 {
-    let front = RecordWriter::new().octets(&MARK).octet(value.kind().number());
+    let front = RecordWriter::new()
+        .octets(&MARK)
+        .octet(value.kind().number());
     write_fields(value, front).finish()
 }
 

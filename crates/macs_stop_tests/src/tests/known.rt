@@ -97,12 +97,17 @@ impl Passed {
         rt: &impl Abort,
         endpoint: &Endpoint<D>,
     ) -> bool {
-        let encoding = endpoint.config().encoding().expect(rt, "an encoding association");
+        let encoding = endpoint
+            .config()
+            .encoding()
+            .expect(rt, "an encoding association");
         let place = place_of_key(rt, endpoint.config());
         assert!(rt; place < self.sent.len());
         let next = endpoint.next_number(encoding).expect(rt, "a next number");
         let an = An::new(PEER_NUMBER).expect(rt, "association number");
-        let numbers = endpoint.numbers(PEER, an).expect(rt, "the numbers of the peer");
+        let numbers = endpoint
+            .numbers(PEER, an)
+            .expect(rt, "the numbers of the peer");
         next == u64::from(self.sent[place]).saturating_add(1)
             && numbers.next == u64::from(self.delivered).saturating_add(1)
     }
