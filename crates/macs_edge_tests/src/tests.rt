@@ -10,7 +10,6 @@ mod endpoints;
 mod fault_wires;
 mod hostile_files;
 mod hostile_texts;
-mod keeping;
 mod links;
 mod memory;
 mod relaying;
