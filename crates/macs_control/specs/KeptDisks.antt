@@ -90,6 +90,8 @@ Talks old call read (Ok done) new =
 Talks old call read (Err fault) new =
     (between : Option Conversation) × SendsSome old (request_of call) between × Hears between call read (Err fault) new
 
+-- A call that is made and waited for: it is counted, and the keeper is asked for it and answers. A disk that has stopped
+-- asks for nothing, and a call that fails stops it
 pub record Exchanges (old : KeptDiskValue) (call : DeviceCall) (read : List ℕ)
     (result : Result (Unit {0}) DeviceFault) (new : KeptDiskValue) : Type 0 where
   pub counts : IsDeviceCall (kept_disk old) (kept_disk new) result

@@ -7,17 +7,19 @@ use Rattle.macs_disk.specs.declared.device_call.DeviceCall.TheVariants.{Read, Wr
 use Rattle.macs_disk.specs.declared.messages.answer.CallAnswer.{CallAnswer}
 use Rattle.macs_disk.specs.declared.messages.answer.CallAnswer.TheVariants.{Sector, Done, Failed}
 
--- the first octet of a request, its number, and its sector, which are zero where a call has none
+-- the first octet of a request
 abbrev pub kind_of : DeviceCall → ℕ
 kind_of (Read at) = 1
 kind_of (Write at octets) = 2
 kind_of Sync = 3
 
+-- the number of its sector, zero where a call has none
 abbrev pub place_of : DeviceCall → ℕ
 place_of (Read at) = at
 place_of (Write at octets) = at
 place_of Sync = 0
 
+-- the octets that it writes, zeros where a call writes none
 abbrev pub sector_of : DeviceCall → List ℕ
 sector_of (Write at octets) = octets
 sector_of call = zero_sector
@@ -32,12 +34,13 @@ answer_to call read (Err e) = Failed
 answer_to (Read at) read (Ok x) = Sector read
 answer_to call read (Ok x) = Done
 
--- the first octet of an answer, and its sector, which is zero where nothing was read
+-- the first octet of an answer
 abbrev pub octet_of : CallAnswer → ℕ
 octet_of (Sector octets) = 1
 octet_of Done = 2
 octet_of Failed = 3
 
+-- the sector that was read, zeros where none was
 abbrev pub octets_in : CallAnswer → List ℕ
 octets_in (Sector octets) = octets
 octets_in answer = zero_sector
