@@ -31,6 +31,7 @@ kept_disk it =
       failures = it.failures;
       honest = false;
       worn = it.clock == 2 ^ 64 - 1;
+      prompt = false;
     }
 
 -- a call failed, or the disk is worn: each later call fails

@@ -44,6 +44,7 @@ blank-memory n first seen choices es c f is_first is_seen is_choices empty is_cl
         failures = 0;
         honest = true;
         worn = false;
+        prompt = true;
       };
       chosen = λ i. get_or-all choices n i None is_choices j;
     })

@@ -83,6 +83,7 @@ module _ {F : Type 0} (file : F → FileState) where
         failures = failures;
         honest = keeps_disk layout (file shown.value) && is_ready layout sectors (file (get_or past 0 shown).value);
         worn = clock == 2 ^ 64 - 1;
+        prompt = true;
       }
 
   -- its state now is the file's

@@ -246,6 +246,7 @@ module _ (first seen durable torn : List (List ℕ)) (pending : List Bool) (choi
               failures;
           honest = true;
           worn = clock == 2 ^ 64 - 1;
+          prompt = true;
         };
         chosen = λ i. none i j;
       })

@@ -40,6 +40,7 @@ disk_of_calls sectors state calls clock failures =
       failures = failures;
       honest = true;
       worn = clock == 2 ^ 64 - 1;
+      prompt = true;
     }
 
 -- the list of the calls so far gives the contents of the disk

@@ -4,7 +4,8 @@ use Rattle.macs_disk.specs.States.{IsSector, Image, DiskState, IsImage, settled_
 use Rattle.macs_disk.specs.States.{state_after_sync}
 
 -- a disk over time. `past k` is its state at moment k, for each k up to the clock. On a worn disk each call fails.
--- Whether it is honest decides whether its calls do what the model of an honest disk says.
+-- Whether it is honest decides whether its calls do what the model of an honest disk says, and whether it is prompt
+-- whether each call is answered at once.
 pub record Disk : Type 0 where
   pub sectors : ℕ
   pub past : ℕ → DiskState
@@ -12,6 +13,7 @@ pub record Disk : Type 0 where
   pub failures : ℕ
   pub honest : Bool
   pub worn : Bool
+  pub prompt : Bool
 
 -- its state at this moment
 abbrev pub now : Disk → DiskState
@@ -40,6 +42,7 @@ disk_after_loss disk image =
       failures = disk.failures;
       honest = disk.honest;
       worn = disk.worn;
+      prompt = disk.prompt;
     }
 
 -- calls led from old to new: the clock advances, the past stays, failures are only added, a worn disk stays worn, and

@@ -48,6 +48,7 @@ disk_in_file file it =
       honest = keeps_disk it.layout (file it.shown.value)
           && is_ready it.layout it.sectors (file (get_or it.past.items 0 it.shown).value);
       worn = it.clock == 2 ^ 64 - 1;
+      prompt = true;
     }
 
 -- the file whose octets a disk started with, as it was claimed

@@ -1,7 +1,7 @@
 -- A disk with a fuse. The calls that the fuse fails do not reach the inner disk, except for a write in whose place the
 -- fuse writes octets of its own.
 use Rattle.std.specs.Prelude.{◌≡◌, ◌≤◌, ◌<◌, ◌+◌, ◌-◌, ◌^◌, ◌==◌, ◌||◌, ◌⊎◌, ℕ, min, max, if◌then◌else◌, List, Result}
-use Rattle.std.specs.Prelude.{is_ok}
+use Rattle.std.specs.Prelude.{is_ok, true}
 use Rattle.macs_disk.specs.Disk.{Disk, IsDeviceCall, IsHonest, Writes, now}
 use Rattle.macs_disk.specs.declared.disk.DeviceFault.{DeviceFault}
 use Rattle.macs_disk.specs.declared.fuse.Blow.{Blow}
@@ -106,6 +106,7 @@ fused_disk disk at missed added =
       failures = disk.failures + added;
       honest = disk.honest;
       worn = disk.worn || (missed == 2 ^ 64 - 1);
+      prompt = true;
     }
 
 -- the value of a fuse, given that of the inner disk. `when` is never greater than the inner disk's clock; `min` makes

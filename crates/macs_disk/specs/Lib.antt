@@ -2,7 +2,6 @@ pub mod States
 pub mod Disk
 pub mod DeviceCalls
 pub mod Messages
-pub mod SplitDisks
 pub mod Runs
 pub mod Fuses
 pub mod RemoteDisks

@@ -20,6 +20,7 @@ blank_memory sectors =
             failures = 0;
             honest = true;
             worn = false;
+            prompt = true;
           };
       chosen = λ _. None;
     }

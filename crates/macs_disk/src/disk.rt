@@ -1,8 +1,11 @@
 //! A disk of sectors, as its callers see it.
 
-ghost use Rattle.std.specs.Prelude.{◌≡◌, ◌<◌, ◌≤◌, ◌-◌, ◌^◌, true};
+ghost use Rattle.std.specs.Prelude.{◌≡◌, ◌<◌, ◌≤◌, ◌-◌, ◌^◌, true, false, None, IfSome};
 ghost use Rattle.macs_disk.specs.States.{IsSound};
+ghost use Rattle.macs_disk.specs.DeviceCalls.{IsMade, IsWithin};
 ghost use Rattle.macs_disk.specs.Disk.{Disk, IsDeviceCall, IsHonest, Reads, Syncs, Writes, now};
+
+use crate::device_call::DeviceCall;
 
 /// A call of the device failed.
 #[derive(Clone, Copy, Debug, PartialEq, Eq)]
@@ -49,6 +52,27 @@ pub trait SectorDisk {
         ensures call { IsDeviceCall (disk self.old) (disk self.new) result }
         ensures effect { IsHonest (disk self.new)
             → Syncs (now (disk self.old)) (now (disk self.new)) result };
+
+    /// Makes a call, or begins it and does not wait: `None` as long as its answer is not there.
+    /// Then ask again with the same call, and make no other before. Until the answer is there the
+    /// disk is as before the call. A read puts the sector into `read`; no other call changes that.
+    /// A prompt disk never returns `None`; by default a disk is prompt.
+    fn try_make(
+        &mut self,
+        call: &DeviceCall,
+        read: &mut [u8; 512],
+    ) -> Option<Result<(), DeviceFault>>
+        requires { IsWithin (disk self.old).sectors call.now }
+        ensures waits { result ≡ None → (self.new ≡ self.old) × ((disk self.old).prompt ≡ false) }
+        ensures made { IfSome result
+            (λ answer. IsMade (disk self.old) (disk self.new) call.now read.new answer) }
+    {
+        Some(match call {
+            DeviceCall::Read(at) => self.read(*at, read),
+            DeviceCall::Write(at, octets) => self.write(*at, octets),
+            DeviceCall::Sync => self.sync(),
+        })
+    }
 
     /// Sectors have 512 octets, and what reads give is what a power loss may leave.
     ghost sound: { (it : Self) → IsHonest (disk it) → IsSound (now (disk it)) };

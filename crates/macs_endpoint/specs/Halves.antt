@@ -32,6 +32,10 @@ pub record HasBegun {D : Type 0} (disk_of : D → Disk) (old new : EndpointValue
   pub step : (result : Result Progress StepFault) (later : EndpointValue D)
       → IsCall disk_of new Advances (Advanced result) later → IsStep disk_of old result later
 
+-- work is under way, as in `HasBegun`, and its next device call has no answer yet: the disk is not prompt
+abbrev pub Awaits : {D : Type 0} → (D → Disk) → EndpointValue D → EndpointValue D → Type 0
+Awaits disk_of old new = HasBegun disk_of old new × ((disk_in disk_of new).prompt ≡ false)
+
 -- What an endpoint makes of the answer of its next device call. Nothing is called. If the call was made, and led from
 -- any device before to the present one, this is a step from there.
 pub record Did {D : Type 0} (disk_of : D → Disk) (old : EndpointValue D) (read : List ℕ)

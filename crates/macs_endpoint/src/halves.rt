@@ -1,7 +1,7 @@
 //! A step of an endpoint in two halves, once its work has begun: the device call that comes next,
 //! and what it led to. Frames and commands may pass between them.
 
-ghost use Rattle.std.specs.Prelude.{◌≡◌, ◌↔◌, ◌⊎◌, true, None, IfSome};
+ghost use Rattle.std.specs.Prelude.{◌≡◌, ◌↔◌, ◌⊎◌, true, false, None, IfSome};
 ghost use Rattle.macs_disk.specs.DeviceCalls.{IsMade, IsWithin};
 ghost use Rattle.macs_store.specs.Value.{IsIdle};
 ghost use Rattle.macs_endpoint.specs.Halves.{Did, IsNextCall, with_device};
@@ -35,6 +35,23 @@ impl<D: SectorDisk> Endpoint<D> {
         ensures same { self.old ≡ with_device self.new (device_in self.old) }
     {
         self.store.make(call, read)
+    }
+
+    /// Makes a device call, or begins it and does not wait, as `SectorDisk::try_make`: until it
+    /// returns an answer nothing changes.
+    pub fn try_make(
+        &mut self,
+        call: &DeviceCall,
+        read: &mut [u8; SECTOR],
+    ) -> Option<Result<(), DeviceFault>>
+        requires { IsWithin (disk_in D.disk self.old).sectors call.now }
+        ensures waits { result ≡ None
+            → (self.new ≡ self.old) × ((disk_in D.disk self.old).prompt ≡ false) }
+        ensures made { IfSome result (λ answer. IsMade (disk_in D.disk self.old)
+            (disk_in D.disk self.new) call.now read.new answer) }
+        ensures same { self.old ≡ with_device self.new (device_in self.old) }
+    {
+        self.store.try_make(call, read)
     }
 
     /// Continues after the call that `next_call` returned was made: with its answer, and with what

@@ -5,7 +5,7 @@ ghost use Rattle.std.specs.Option.{option_map};
 ghost use Rattle.macs_store.specs.Value.{IsIdle};
 ghost use Rattle.macs_endpoint.specs.Advancing.{CallsAtOnce, ToKeep, ToRaise, next_due};
 ghost use Rattle.macs_endpoint.specs.Calls.{IsCall, IsStep};
-ghost use Rattle.macs_endpoint.specs.Halves.{HasBegun};
+ghost use Rattle.macs_endpoint.specs.Halves.{Awaits, HasBegun};
 ghost use Rattle.macs_endpoint.specs.KeptCommands.{StartsFirst};
 ghost use Rattle.macs_endpoint.specs.PrivateTypes.{due_of, raise_of};
 ghost use Rattle.macs_endpoint.specs.Queue.{first_waiting};
@@ -67,6 +67,27 @@ impl<D: SectorDisk> Endpoint<D> {
         let mut read = [0; SECTOR];
         let answer = self.make(&call, &mut read);
         self.did_call(&read, answer)
+    }
+
+    /// Makes one device call of the pending work as `step` does, but does not wait for its answer:
+    /// `None` as long as that is not there. Work is under way then, which begins now if none was
+    /// before, and nothing else changes. The next `try_step` continues with the same device call;
+    /// frames and commands may pass before it. Over a prompt disk it is a `step`.
+    pub fn try_step(&mut self) -> Option<Result<Step, StepFault>>
+        ensures stepped { IfSome result (λ answer. IsStep D.disk self.old answer self.new) }
+        ensures waits { result ≡ None → Awaits D.disk self.old self.new }
+    {
+        if let Some(answer) = self.begin() {
+            return Some(answer);
+        }
+        let Some(call) = self.next_call() else {
+            return Some(Ok(Step::Idle)); // Not reached.
+        };
+        let mut read = [0; SECTOR];
+        match self.try_make(&call, &mut read) {
+            Some(answer) => Some(self.did_call(&read, answer)),
+            None => None,
+        }
     }
 
     /// Begins what is due, unless work is under way, and makes no device call: the first part of a

@@ -23,7 +23,7 @@ use Rattle.macs_headline.specs.Images.{image_with_next_body}
 -- a disk of the example on which this many calls led through these states
 abbrev pub disk_through : (ℕ → DiskState) → (calls : ℕ) → Disk
 disk_through states calls =
-    record { sectors = example_sectors; past = states; clock = calls; failures = 0; honest = true; worn = false }
+    record { sectors = example_sectors; past = states; clock = calls; failures = 0; honest = true; worn = false; prompt = true }
 
 -- the place after a content
 abbrev pub place_behind : Content → Place

@@ -74,6 +74,23 @@ impl<D: SectorDisk> Journal<D> {
         call.make(&mut self.disk, read)
     }
 
+    /// Makes a device call, or begins it and does not wait, as `SectorDisk::try_make`: until it
+    /// returns an answer nothing changes.
+    pub fn try_make(
+        &mut self,
+        call: &DeviceCall,
+        read: &mut [u8; SECTOR],
+    ) -> Option<Result<(), DeviceFault>>
+        requires { IsWithin (disk_in D.disk self.old).sectors call.now }
+        ensures waits { result ≡ None
+            → (self.new ≡ self.old) × ((disk_in D.disk self.old).prompt ≡ false) }
+        ensures made { IfSome result (λ answer. IsMade (disk_in D.disk self.old)
+            (disk_in D.disk self.new) call.now read.new answer) }
+        ensures same { self.old ≡ with_device self.new (device_in self.old) }
+    {
+        self.disk.try_make(call, read)
+    }
+
     /// Whether the work under way continues: if none is under way it is finished.
     fn progress(&self) -> JournalStep
         ensures { result ≡ step_of self.now.under_way }

@@ -1,6 +1,6 @@
 //! A step of a store in two halves: the device call that comes next, and what it led to.
 
-ghost use Rattle.std.specs.Prelude.{◌≡◌, ◌↔◌, ◌⊎◌, true, None, IfSome};
+ghost use Rattle.std.specs.Prelude.{◌≡◌, ◌↔◌, ◌⊎◌, true, false, None, IfSome};
 ghost use Rattle.macs_disk.specs.DeviceCalls.{IsMade, IsWithin};
 ghost use Rattle.macs_store.specs.Halves.{Did, IsNextCall, with_device};
 ghost use Rattle.macs_store.specs.Value.{IsIdle, device_in, disk_in, is_stopped};
@@ -33,6 +33,23 @@ impl<D: SectorDisk> Store<D> {
         ensures same { self.old ≡ with_device self.new (device_in self.old) }
     {
         self.journal.make(call, read)
+    }
+
+    /// Makes a device call, or begins it and does not wait, as `SectorDisk::try_make`: until it
+    /// returns an answer nothing changes.
+    pub fn try_make(
+        &mut self,
+        call: &DeviceCall,
+        read: &mut [u8; SECTOR],
+    ) -> Option<Result<(), DeviceFault>>
+        requires { IsWithin (disk_in D.disk self.old).sectors call.now }
+        ensures waits { result ≡ None
+            → (self.new ≡ self.old) × ((disk_in D.disk self.old).prompt ≡ false) }
+        ensures made { IfSome result (λ answer. IsMade (disk_in D.disk self.old)
+            (disk_in D.disk self.new) call.now read.new answer) }
+        ensures same { self.old ≡ with_device self.new (device_in self.old) }
+    {
+        self.journal.try_make(call, read)
     }
 
     /// Continues after the call that `next_call` returned was made: with its answer, and with what

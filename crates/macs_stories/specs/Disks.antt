@@ -1,5 +1,5 @@
 -- What a `StoryDisk` is.
-use Rattle.std.specs.Prelude.{◌-◌, ◌^◌, ◌==◌, false}
+use Rattle.std.specs.Prelude.{◌-◌, ◌^◌, ◌==◌, false, true}
 use Rattle.macs_disk.specs.States.{settled_state, zero_sector}
 use Rattle.macs_disk.specs.Disk.{Disk}
 use Rattle.macs_stories.specs.declared.disk.device.StoryDisk.{StoryDisk}
@@ -14,4 +14,5 @@ story_disk it =
       failures = it.failures;
       honest = false;
       worn = it.clock == 2 ^ 64 - 1;
+      prompt = true;
     }

@@ -28,7 +28,7 @@ impl Forgetful {
 }
 
 impl SectorDisk for Forgetful {
-    ghost use Rattle.std.specs.Prelude.{◌==◌, false};
+    ghost use Rattle.std.specs.Prelude.{◌==◌, true, false};
     ghost use Rattle.std.proofs.Common.{rules};
     ghost use Rattle.macs_disk.specs.States.{settled_state, zero_sector};
     ghost use Rattle.macs_disk.specs.Evidence.{full-clock};
@@ -40,6 +40,7 @@ impl SectorDisk for Forgetful {
       failures = 0;
       honest = false;
       worn = it.clock == 2 ^ 64 - 1;
+      prompt = true;
     } };
 
     ghost sound = { Prim.search rules };

@@ -26,6 +26,7 @@ impl<D: SectorDisk> SectorDisk for Tearing<D> {
       failures = (D.disk it.disk).failures + (if it.has_torn then 1 else 0);
       honest = (D.disk it.disk).honest;
       worn = (D.disk it.disk).worn;
+      prompt = true;
     } };
 
     ghost sound = { λ it honest. D.sound it.disk honest };
