@@ -1,6 +1,7 @@
 //! A disk that a process of its own keeps: the keeper makes the device calls that its client sends,
 //! and the client goes on with frames until the answer is there.
 
+mod courier;
 mod cut;
 mod keeper;
 mod kept_disk;
