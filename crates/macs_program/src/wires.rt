@@ -10,7 +10,7 @@ ghost use Rattle.macs_program.specs.Relaying.{IsSparedAt, RelaysAttended, Spares
 use crate::pacing::left_out;
 use crate::relaying::relay_frames;
 use macs_cli::{Addresses, Failure, Pace, Status, Stream, WireAddresses};
-use macs_control::{Wires as Sockets, ask_for_buffer};
+use macs_control::{Sockets, ask_for_buffer};
 use macs_disk::SectorDisk;
 use macs_edge::{Desk, SparedSocket, UdpWire, Wire};
 use macs_endpoint::Endpoint;
