@@ -1,5 +1,5 @@
-//! A disk that a process of its own keeps: the keeper makes the device calls that its client sends,
-//! and the client goes on with frames until the answer is there.
+//! A disk that a separate process keeps: the keeper makes the device calls that its client sends,
+//! and the client continues with frames until the answer is there.
 
 mod cut;
 mod keeper;

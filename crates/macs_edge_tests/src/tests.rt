@@ -1,5 +1,5 @@
-//! Captures as files and through an endpoint, command files with each wrong value, want of memory,
-//! wires, the lines of a control socket and the desk that answers them.
+//! Captures as files and through an endpoint, command files with each wrong value, memory that is
+//! refused, wires, the lines of a control socket and the desk that answers them.
 
 mod capture_files;
 mod captures;
