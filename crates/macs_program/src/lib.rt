@@ -13,6 +13,7 @@ mod conversing;
 mod counters_name;
 mod format;
 mod input;
+mod kept_relay;
 mod judging;
 pub mod laws;
 mod new_disk;

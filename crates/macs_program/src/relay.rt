@@ -25,7 +25,7 @@ use crate::task::{Task, with_file};
 use crate::wires::{Wires, bind_wires};
 use macs_cli::{CaptureFile, Failure, Pace, Running, Status, Stream, WireEnds, addresses_of};
 use macs_commands::requests::{Clients, Metrics};
-use macs_control::Notifier;
+use macs_control::{NO_SOCKET, Notifier};
 use macs_control::desk::laws::clients_are_served;
 use macs_control::desk::{ControlDesk, KeyNotes, Overruns, Time};
 use macs_disk::SectorDisk;
@@ -34,6 +34,7 @@ use macs_endpoint::Endpoint;
 use macs_offline::look_at;
 use std::alloc::Global;
 use std::net::{Net, UdpSocket};
+use std::os::fd::RawFd;
 use std::rt::{Clock, Env, Files};
 
 /// Whether a desk attends a relay.
@@ -68,12 +69,14 @@ fn serve<D: SectorDisk, C: Clients, M: Metrics, S: Overruns + KeyNotes + Time, W
 
 /// Relays frames through an endpoint between two wires, of which no call has been made yet.
 #[derive(Drop)]
-struct RelayWires<'a, T> {
-    rt: &'a T,
-    alloc: Global,
-    disk: &'a str,
-    wires: Wires,
-    running: Running<'a>,
+pub struct RelayWires<'a, T> {
+    pub rt: &'a T,
+    pub alloc: Global,
+    pub disk: &'a str,
+    pub wires: Wires,
+    /// The connection to the keeper of the disk, or `NO_SOCKET`.
+    pub keeper: RawFd,
+    pub running: Running<'a>,
     ghost new_controlled: { ⟦<UdpWire<Global, UdpSocket> as Wire>⟧.state wires.controlled
         ≡ new_wire },
     ghost new_common: { ⟦<UdpWire<Global, UdpSocket> as Wire>⟧.state wires.common ≡ new_wire },
@@ -101,9 +104,10 @@ impl<T: Files + Net + Clock + Env> RelayWires<'_, T> {
             alloc,
             disk,
             wires,
+            keeper,
             running,
         } = self;
-        let mut desk = desk_for(rt, alloc, disk, &running, wires.sockets())?;
+        let mut desk = desk_for(rt, alloc, disk, &running, wires.sockets(keeper))?;
         let notifier = Notifier::of_environment(rt, alloc);
         notifier.ready();
         let result = serve(wires, endpoint, &mut desk, running.pace, out);
@@ -122,9 +126,14 @@ impl<T: Files + Net + Clock + Env> RelayWires<'_, T> {
             (course_with T false self.entry.disk.now self.entry.running) endpoint.old out.old result
             endpoint.new out.new }
     {
-        let RelayWires { wires, running, .. } = self;
+        let RelayWires {
+            wires,
+            keeper,
+            running,
+            ..
+        } = self;
         let idle = Rest {
-            sockets: wires.sockets(),
+            sockets: wires.sockets(keeper),
             limit: limit_of(running.pace),
         };
         wires.relay(endpoint, &mut Unattended { idle }, running.pace, out)
@@ -203,6 +212,7 @@ where
                 alloc,
                 disk,
                 wires,
+                keeper: NO_SOCKET,
                 running,
             };
             with_file(rt, alloc, disk, task, out)
