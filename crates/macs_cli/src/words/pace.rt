@@ -31,4 +31,6 @@ pub struct Running<'a> {
     pub control: Option<&'a str>,
     /// The file that the counters are written to, if there is one: `--metrics FILE`.
     pub metrics: Option<&'a str>,
+    /// Whether a keeper keeps the disk, whose socket is named instead of the disk file: `--keeper`.
+    pub keeper: bool,
 }

@@ -2,13 +2,15 @@
 
 ghost use Rattle.std.specs.Prelude.{ℕ, Option, IfSome, IsSome, codes};
 ghost use Rattle.clap.specs.Words.{Text, found_of, rows_of};
-ghost use Rattle.macs_cli.specs.Words.{FitsOnFrames, FitsPace, HasPace, HasText, MayHaveRoom};
-ghost use Rattle.macs_cli.specs.Words.{MayHaveText, NamesOnFrames};
+ghost use Rattle.macs_cli.specs.Words.{FitsOnFrames, FitsPace, HasPace, HasText, IsFlagged};
+ghost use Rattle.macs_cli.specs.Words.{MayHaveRoom, MayHaveText, NamesOnFrames};
 ghost use Rattle.macs_cli.specs.declared.words.pace.Pace.{Pace};
 
 use crate::words::action::{FrameAction, WireEnds};
 use crate::words::pace::{Pace, Running};
-use crate::words::read_values::{count_in, optional_count_in, optional_room_in, text_in, wait_in};
+use crate::words::read_values::{
+    count_in, is_flagged, optional_count_in, optional_room_in, text_in, wait_in,
+};
 use clap::ArgMatches;
 
 /// The two addresses of a wire.
@@ -48,7 +50,8 @@ fn running_in<'a>(values: &ArgMatches<'a>) -> Option<Running<'a>>
     ensures read { IfSome result (λ running. HasPace (rows_of (found_of values.now)) running.pace
         × MayHaveRoom (rows_of (found_of values.now)) (codes "buffer") running.buffer
         × MayHaveText (rows_of (found_of values.now)) (codes "control") running.control
-        × MayHaveText (rows_of (found_of values.now)) (codes "metrics") running.metrics) }
+        × MayHaveText (rows_of (found_of values.now)) (codes "metrics") running.metrics
+        × IsFlagged (rows_of (found_of values.now)) (codes "keeper") running.keeper) }
     ensures found { (pace : Pace) (room : Option ℕ) → HasPace (rows_of (found_of values.now)) pace
         → FitsPace pace → MayHaveRoom (rows_of (found_of values.now)) (codes "buffer") room
         → IsSome result }
@@ -60,6 +63,7 @@ fn running_in<'a>(values: &ArgMatches<'a>) -> Option<Running<'a>>
         buffer,
         control: text_in(values, "control"),
         metrics: text_in(values, "metrics"),
+        keeper: is_flagged(values, "keeper"),
     })
 }
 

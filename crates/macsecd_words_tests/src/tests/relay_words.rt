@@ -122,6 +122,22 @@ const WORDS: &[Row] = &[
         Usage("macsecd: the argument '--metrics <metrics>' cannot be used multiple times\n"),
     ),
     (
+        &["relay", NO, ANY, ANY, ANY, ANY, "--keeper"],
+        Usage(
+            "macsecd: the following required arguments were not provided: --turns n or --wait MS\n",
+        ),
+    ),
+    (
+        &["relay", NO, ANY, ANY, ANY, ANY, "--turns=1", "--keeper=1"],
+        Usage("macsecd: unexpected value '1' for '--keeper' found; no more were expected\n"),
+    ),
+    (
+        &[
+            "relay", NO, ANY, ANY, ANY, ANY, "--keeper", "--wait=1", "--keeper",
+        ],
+        Usage("macsecd: the argument '--keeper' cannot be used multiple times\n"),
+    ),
+    (
         &["relay", NO, ANY, ANY, ANY, ANY, "--buffer", "0"],
         Usage("macsecd: invalid value '0' for '--buffer <buffer>': 0 is not in 1..=1073741823\n"),
     ),
