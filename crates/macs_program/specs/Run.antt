@@ -28,6 +28,7 @@ use Rattle.macs_offline.specs.Keys.{GivesKey, IsOfKey}
 use Rattle.macs_offline.specs.Plans.{PlanFails, PrintsPlan}
 use Rattle.macs_cli.specs.Help.{topic_text}
 use Rattle.macs_program.specs.Inputs.{InputRead, read_of}
+use Rattle.macs_program.specs.Keeping.{FailsToKeep, KeepsIn}
 use Rattle.macs_program.specs.NewDisks.{FormatFails, Formats}
 use Rattle.macs_program.specs.Relaying.{ComesTo, IsUnbound, RelayEndsIn, course_of}
 use Rattle.macs_cli.specs.OpenInput.{InputFaultHolds, input_faults}
@@ -37,7 +38,7 @@ use Rattle.macs_cli.specs.Values.{SpellsIdentity, SpellsLayout, ValueFaultHolds,
 use Rattle.macs_cli.specs.Words.{AreRefused, AsksFor, AsksForNothing, Names, macsecd}
 use Rattle.macs_cli.specs.declared.words.action.Action.{Action}
 use Rattle.macs_cli.specs.declared.words.action.Action.TheVariants.{Open, OnDisk, OnFrames, Tool}
-use Rattle.macs_cli.specs.declared.words.action.DiskAction.TheVariants.{Format, Apply, Show}
+use Rattle.macs_cli.specs.declared.words.action.DiskAction.TheVariants.{Format, Apply, Show, Keep}
 use Rattle.macs_cli.specs.declared.words.action.FrameAction.TheVariants.{Protect, Validate, Relay}
 use Rattle.macs_cli.specs.declared.words.action.ToolAction.TheVariants.{Ask, Key, Inspect, Check, Plan, Examine, About}
 use Rattle.macs_cli.specs.declared.addresses.AddressFault.{AddressFault}
@@ -74,6 +75,8 @@ Does T state_of left_in (OnDisk (Apply disk file)) input before after status =
     AppliesIn state_of left_in before after status
 Does T state_of left_in (OnDisk (Show disk)) input before after status = ShowsIn state_of before after
     × (status ≡ ends.Done)
+Does T state_of left_in (OnDisk (Keep disk socket)) input before after status =
+    KeepsIn state_of status × (after ≡ before)
 Does T state_of left_in (OnFrames (Protect disk from to is_all)) input before after status =
     (summary : Summary) × PassesIn state_of Controlled summary
     × Appends before after (summary_line Controlled summary) × (status ≡ pass_status is_all summary)
@@ -153,6 +156,7 @@ FailsAs T state_of left_in (OnDisk (Apply disk file)) octets before after failur
 FailsAs T state_of left_in (OnDisk (Show disk)) octets before after failure = OpeningFails state_of failure
     ⊎ (failure ≡ Memory)
     ⊎ (failure ≡ Output)
+FailsAs T state_of left_in (OnDisk (Keep disk socket)) octets before after failure = FailsToKeep state_of failure
 FailsAs T state_of left_in (OnFrames (Protect disk from to is_all)) octets before after failure =
     OpeningFails state_of failure
     ⊎ PassEndsIn state_of Controlled failure
