@@ -1,5 +1,6 @@
 -- A relay over the disk of a keeper.
-use Rattle.std.specs.Prelude.{◌≡◌, ◌⊎◌, Ok}
+use Rattle.std.specs.Prelude.{◌≡◌, ◌⊎◌, ℕ, Bor, List, Option, None, Some, Ok}
+use Rattle.macs_disk.specs.Files.{FileState}
 use Rattle.macs_control.specs.KeptDisks.{KeptDiskValue, kept_disk}
 use Rattle.macs_edge.specs.Relaying.{empty_lane, relay_of}
 use Rattle.macs_edge.specs.Wires.{WireState}
@@ -11,7 +12,8 @@ use Rattle.macs_journal.specs.declared.fault.JournalFault.TheVariants.{Disk}
 use Rattle.macs_cli.specs.Failing.{failure_of_journal}
 use Rattle.macs_cli.specs.declared.failure.Failure.{Failure}
 use Rattle.macs_cli.specs.declared.failure.Failure.TheVariants.{Memory, Wire}
-use Rattle.macs_program.specs.Relaying.{Course, IsRun, RelayEnds, new_wire}
+use Rattle.macs_offline.specs.Openings.{OpeningFails}
+use Rattle.macs_program.specs.Relaying.{ComesTo, Course, IsRun, IsUnbound, RelayEnds, RelayEndsIn, new_wire}
 
 -- an endpoint was opened on the disk of a keeper
 pub record IsKeptEndpoint (endpoint : EndpointValue KeptDiskValue) : Type 0 where
@@ -49,3 +51,16 @@ pub record RelayEndsKept (course : Course) (failure : Failure) : Type 0 where
   pub new : EndpointValue KeptDiskValue
   pub endpoint : IsKeptEndpoint old
   pub ends : RelayEnds kept_disk course old failure new
+
+-- ---- whoever has the disk
+
+-- the result of a relay over the disk of a keeper, or in a file if none is named
+abbrev pub ComesToBy : {F : Type 0} → (F → FileState) → Option (Bor (List ℕ)) → Course → RelaySummary → Type 0
+ComesToBy file None course summary = ComesTo file course summary
+ComesToBy file (Some keeper) course summary = ComesToKept course summary
+
+-- how it fails after the addresses
+abbrev pub RelayFailsBy : {F : Type 0} → (F → FileState) → Option (Bor (List ℕ)) → Course → Failure → Type 0
+RelayFailsBy file None course failure =
+    IsUnbound file failure ⊎ OpeningFails file failure ⊎ RelayEndsIn file course failure
+RelayFailsBy file (Some keeper) course failure = HasNoWires failure ⊎ KeepingFails failure ⊎ RelayEndsKept course failure

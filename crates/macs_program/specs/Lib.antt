@@ -9,6 +9,7 @@ pub mod Attendants
 pub mod Relaying
 pub mod Tasks
 pub mod KeptRelays
+pub mod Keeping
 pub mod Asking
 pub mod About
 pub mod Overruns

@@ -14,12 +14,14 @@ ghost use Rattle.macs_cli.specs.Failing.{failure_status};
 ghost use Rattle.macs_offline.specs.Openings.{OpeningFails};
 ghost use Rattle.macs_offline.specs.Trying.{LookFails, TriesIn};
 ghost use Rattle.macs_cli.specs.declared.addresses.AddressFault.{AddressFault};
+ghost use Rattle.macs_program.specs.KeptRelays.{ComesToBy, RelayFailsBy};
 ghost use Rattle.macs_program.specs.Relaying.{ComesTo, IsOfRelay, IsUnbound, RelayEndsIn};
 ghost use Rattle.macs_program.specs.Relaying.{RelaysAttended, course_of, is_attended, new_wire};
 ghost use Rattle.macs_program.specs.Summing.{relay_line};
 ghost use Rattle.macs_program.specs.Tasks.{DoesRelay};
 
 use crate::attendants::{desk_for, leave};
+use crate::kept_relay::relay_kept;
 use crate::pacing::{Rest, limit_of};
 use crate::task::{Task, with_file};
 use crate::wires::{Wires, bind_wires};
@@ -171,8 +173,8 @@ where
     }
 }
 
-/// `relay`: relays frames between two wires, the first of which is the controlled side.
-pub fn relay<'a, T: Files + Net + Clock + Env, W: Stream>(
+/// Relays frames between two wires, through an endpoint on a disk in a file.
+fn relay_in_file<'a, T: Files + Net + Clock + Env, W: Stream>(
     rt: &'a T,
     alloc: Global,
     disk: &'a str,
@@ -218,5 +220,44 @@ where
             with_file(rt, alloc, disk, task, out)
         }
         Err(failure) => Err(unbound(rt, alloc, disk, failure)),
+    }
+}
+
+/// `relay`: relays frames between two wires, the first of which is the controlled side. The disk is
+/// in the file named `disk`, or a keeper has that file, if one is named.
+pub fn relay<'a, T: Files + Net + Clock + Env, W: Stream>(
+    rt: &'a T,
+    alloc: Global,
+    disk: &'a str,
+    controlled: WireEnds,
+    common: WireEnds,
+    running: Running<'a>,
+    out: &mut W,
+) -> Result<Status, Failure>
+where
+    T::File: CaptureFile,
+    ensures printed { IfOk result
+        (λ status. (summary : RelaySummary)
+        × ComesToBy T.File.file running.entry.keeper (course_of T disk.now running.entry) summary
+        × SpellsBoth controlled.entry common.entry
+        × Appends (W.contents out.old) (W.contents out.new) (relay_line summary)
+        × (status ≡ Status.Done)) }
+    ensures address { (fault : AddressFault) → (result ≡ Err (Failure.Address fault))
+        ↔ IsFirst (AddressFaultHolds controlled.entry common.entry) address_faults fault }
+    ensures usage { IfErr result (λ failure. failure_status failure ≡ Status.Usage
+        → ((fault : AddressFault) × AddressFaultHolds controlled.entry common.entry fault)
+        × (out.new ≡ out.old)) }
+    ensures ended { IfErr result
+        (λ failure. ((fault : AddressFault) × (failure ≡ Failure.Address fault)
+        × IsFirst (AddressFaultHolds controlled.entry common.entry) address_faults fault)
+        ⊎ RelayFailsBy T.File.file running.entry.keeper (course_of T disk.now running.entry)
+        failure) }
+    ensures names { IfErr result IsOfRelay }
+    ensures silent { IfErr result (λ failure. failure ≢ Failure.Output → out.new ≡ out.old) }
+    ensures broken { IfErr result (λ failure. failure ≡ Failure.Output → W.failed out.new ≡ true) }
+{
+    match running.keeper {
+        None => relay_in_file(rt, alloc, disk, controlled, common, running, out),
+        Some(keeper) => relay_kept(rt, alloc, disk, keeper, controlled, common, running, out),
     }
 }
