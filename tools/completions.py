@@ -14,7 +14,7 @@ sys.dont_write_bytecode = True
 import help_texts
 
 # The operands, and the values of options, that are names of files.
-FILES = ("DISK", "FILE", "INPUT", "OUTPUT", "PATH")
+FILES = ("DISK", "FILE", "INPUT", "OUTPUT", "PATH", "SOCKET")
 NOTE = "# Made by tools/completions.py from the help of the program."
 
 

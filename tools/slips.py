@@ -144,6 +144,10 @@ def slips():
             yield [direction, DISK, CAPTURE, name], None, name, None
             yield [direction, SPACED, CAPTURE, name], None, name, None
         yield ["relay", name, *WIRES], None, name, None
+        # No socket takes the name of a file. One that is missing would be made, and a client waited for.
+        yield ["keep", name, COMMANDS], None, None, None
+        if name != MISSING:
+            yield ["keep", IDLE, name], None, None, None
     for name in OWN:
         for printed in OWN:
             yield ["apply", name, COMMANDS], None, None, printed

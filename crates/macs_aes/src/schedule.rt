@@ -70,7 +70,7 @@ fn round_constant(j: usize) -> u32
     u32::from(ROUND_CONSTANTS[j - 1]) << 24
 }
 
-/// What word i takes from the word before it, i from Nk on, under a key of Nk words: 4 or 8.
+/// What word i, for i from Nk on, takes from the word before it. A key has Nk words: 4 or 8.
 fn from_previous(words_in_key: usize, i: usize, word: u32) -> u32
     requires key { (words_in_key ≡ 4) ⊎ (words_in_key ≡ 8) }
     requires first { words_in_key ≤ i }

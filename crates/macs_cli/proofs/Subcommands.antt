@@ -33,7 +33,7 @@ use Rattle.macs_commands.specs.declared.links.planning.Stage.{Stage}
 use Rattle.macs_cli.specs.declared.words.action.Action.{Action}
 use Rattle.macs_cli.specs.declared.words.action.Action.TheVariants.{Open, OnDisk, OnFrames, Tool}
 use Rattle.macs_cli.specs.declared.words.action.DiskAction.{DiskAction}
-use Rattle.macs_cli.specs.declared.words.action.DiskAction.TheVariants.{Format, Apply, Show}
+use Rattle.macs_cli.specs.declared.words.action.DiskAction.TheVariants.{Format, Apply, Show, Keep}
 use Rattle.macs_cli.specs.declared.words.action.FrameAction.{FrameAction}
 use Rattle.macs_cli.specs.declared.words.action.FrameAction.TheVariants.{Protect, Validate, Relay}
 use Rattle.macs_cli.specs.declared.words.action.ToolAction.TheVariants.{Ask, Key, Inspect, Check, Plan, Examine, About}
@@ -83,6 +83,7 @@ blocks rows (Format disk sci tx_block rx_block block is_over) named fits =
     (tx_block, rx_block, named.3, fits.0, named.4, fits.1)
 blocks rows (Apply disk file) named fits = absurd (omega (arith, ap (λ (t : Text). slice_index t 0) named.0))
 blocks rows (Show disk) named fits = absurd (omega (arith, ap (λ (t : Text). slice_index t 0) named.0))
+blocks rows (Keep disk socket) named fits = absurd (omega (arith, ap (λ (t : Text). slice_index t 0) named.0))
 
 -- ---- what `relay` is given
 
@@ -320,6 +321,7 @@ relay-named words taken =
               buffer = room.0;
               control = option_map text_of (first_of (codes "control") rows);
               metrics = option_map text_of (first_of (codes "metrics") rows);
+              keeper = option_map text_of (first_of (codes "keeper") rows);
             })),
         (
           refl,
@@ -332,10 +334,18 @@ relay-named words taken =
           room.1,
           texts-back (first_of (codes "control") rows),
           texts-back (first_of (codes "metrics") rows),
+          texts-back (first_of (codes "keeper") rows),
         ),
         fits,
       )
     ]
+
+keep-named : IsNamed (shape_at 7)
+unfolding clap_on_literals
+keep-named words taken =
+    let disk = value (shape_at 7) words (value_at 1 (codes "DISK")) taken refl refl in
+    let socket = value (shape_at 7) words (value_at 2 (codes "SOCKET")) taken refl refl in
+    inr (OnDisk (Keep (text_of disk.0) (text_of socket.0)), (refl, disk.1, socket.1), tt)
 
 -- what is asked, and in which form its answer is wanted
 form : (rows : List Row) (path : Text) → first_of (codes "PATH") rows ≡ Some path → (asked : Question)
@@ -372,60 +382,60 @@ form rows path there asked has = go (is_flagged rows (codes "json")) (is_report 
       λ other has-other. same-report rows other asked has-other has ∙ e,
     ))))
 
-ask-named : IsNamed (shape_at 7)
+ask-named : IsNamed (shape_at 8)
 unfolding clap_on_literals
 ask-named words taken =
-    let path = value (shape_at 7) words (value_at 1 (codes "PATH")) taken refl refl in
-    let word = value (shape_at 7) words (value_at 2 (codes "WORD")) taken refl refl in
-    let rows = rows_after (shape_at 7).rules [] words in
+    let path = value (shape_at 8) words (value_at 1 (codes "PATH")) taken refl refl in
+    let word = value (shape_at 8) words (value_at 2 (codes "WORD")) taken refl refl in
+    let rows = rows_after (shape_at 8).rules [] words in
     elim (asks rows word.0 word.1) [
       | inl (asked, has) ↦ form rows path.0 path.1 asked has
       | inr none ↦ inl (inr (inl (refl, none)))
     ]
 
-key-named : IsNamed (shape_at 8)
+key-named : IsNamed (shape_at 9)
 unfolding clap_on_literals
 key-named words taken =
-    let rows = rows_after (shape_at 8).rules [] words in
+    let rows = rows_after (shape_at 9).rules [] words in
     inr (Tool (Key (is_flagged rows (codes "long"))), (refl, flagged rows (codes "long")), tt)
 
-inspect-named : IsNamed (shape_at 9)
+inspect-named : IsNamed (shape_at 10)
 unfolding clap_on_literals
 inspect-named words taken =
-    let input = value (shape_at 9) words (value_at 1 (codes "INPUT")) taken refl refl in
+    let input = value (shape_at 10) words (value_at 1 (codes "INPUT")) taken refl refl in
     inr (Tool (Inspect (text_of input.0)), (refl, input.1), tt)
 
-check-named : IsNamed (shape_at 10)
+check-named : IsNamed (shape_at 11)
 unfolding clap_on_literals
 check-named words taken =
-    let file = value (shape_at 10) words (value_at 1 (codes "FILE")) taken refl refl in
-    let rows = rows_after (shape_at 10).rules [] words in inr (
+    let file = value (shape_at 11) words (value_at 1 (codes "FILE")) taken refl refl in
+    let rows = rows_after (shape_at 11).rules [] words in inr (
       Tool (Check (text_of file.0) (option_map text_of (first_of (codes "DISK") rows))),
       (refl, file.1, texts-back (first_of (codes "DISK") rows)),
       tt,
     )
 
-plan-named : IsNamed (shape_at 11)
+plan-named : IsNamed (shape_at 12)
 unfolding clap_on_literals
 plan-named words taken =
-    let file = value (shape_at 11) words (value_at 1 (codes "FILE")) taken refl refl in
-    let rows = rows_after (shape_at 11).rules [] words in
+    let file = value (shape_at 12) words (value_at 1 (codes "FILE")) taken refl refl in
+    let rows = rows_after (shape_at 12).rules [] words in
     elim (plans rows) [
       | inl (end, which, has) ↦ inr (Tool (Plan (text_of file.0) end which), (refl, file.1, has), tt)
       | inr none ↦ inl (inr (inr (inr (refl, none))))
     ]
 
-examine-named : IsNamed (shape_at 12)
+examine-named : IsNamed (shape_at 13)
 unfolding clap_on_literals
 examine-named words taken =
-    let disk = value (shape_at 12) words (value_at 1 (codes "DISK")) taken refl refl in
-    let rows = rows_after (shape_at 12).rules [] words in inr (
+    let disk = value (shape_at 13) words (value_at 1 (codes "DISK")) taken refl refl in
+    let rows = rows_after (shape_at 13).rules [] words in inr (
       Tool (Examine (text_of disk.0) (is_flagged rows (codes "json"))),
       (refl, disk.1, flagged rows (codes "json")),
       tt,
     )
 
-about-named : IsNamed (shape_at 13)
+about-named : IsNamed (shape_at 14)
 about-named words taken = inr (Tool About, refl, tt)
 
 -- ---- the words of a whole command line
@@ -473,7 +483,7 @@ first-of-three false b d is = cc
 
 -- those that change no endpoint
 lone-named : AllByRecursion IsNamed
-    (shape_at 8 ∷ shape_at 9 ∷ shape_at 10 ∷ shape_at 11 ∷ shape_at 12 ∷ shape_at 13 ∷ [])
+    (shape_at 9 ∷ shape_at 10 ∷ shape_at 11 ∷ shape_at 12 ∷ shape_at 13 ∷ shape_at 14 ∷ [])
 lone-named = (key-named, (inspect-named, (check-named, (plan-named, (examine-named, (about-named, tt))))))
 
 all-named : AllByRecursion IsNamed (built macsecd).subs
@@ -481,7 +491,7 @@ all-named = (
   open-named,
   (
     format-named,
-    (apply-named, (show-named, (protect-named, (validate-named, (relay-named, (ask-named, lone-named)))))),
+    (apply-named, (show-named, (protect-named, (validate-named, (relay-named, (keep-named, (ask-named, lone-named))))))),
   ),
 )
 

@@ -5,7 +5,7 @@ use Rattle.macs_cli.specs.declared.words.help.Subcommand.TheVariants as subcomma
 use Rattle.macs_cli.specs.declared.words.help.Topic.{Topic}
 use Rattle.macs_cli.specs.declared.words.help.Topic.TheVariants.{Help, HelpOn, Version}
 use Rattle.macs_cli.specs.declared.words.help_texts.TheConstants.{ABOUT, APPLY, ASK, CHECK, EXAMINE, FORMAT, HELP}
-use Rattle.macs_cli.specs.declared.words.help_texts.TheConstants.{INSPECT}
+use Rattle.macs_cli.specs.declared.words.help_texts.TheConstants.{INSPECT, KEEP}
 use Rattle.macs_cli.specs.declared.words.help_texts.TheConstants.{KEY, OPEN, PLAN, PROTECT, RELAY, SHOW, VALIDATE}
 use Rattle.macs_cli.specs.declared.words.help_texts.TheConstants.{VERSION}
 
@@ -18,6 +18,7 @@ subcommand_text subcommand.Show = SHOW.now
 subcommand_text subcommand.Protect = PROTECT.now
 subcommand_text subcommand.Validate = VALIDATE.now
 subcommand_text subcommand.Relay = RELAY.now
+subcommand_text subcommand.Keep = KEEP.now
 subcommand_text subcommand.Ask = ASK.now
 subcommand_text subcommand.Key = KEY.now
 subcommand_text subcommand.Inspect = INSPECT.now

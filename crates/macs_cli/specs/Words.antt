@@ -21,7 +21,7 @@ use Rattle.macs_cli.specs.declared.words.action.UsageFault.TheVariants.{Usage, M
 use Rattle.macs_cli.specs.declared.words.action.Action.{Action}
 use Rattle.macs_cli.specs.declared.words.action.Action.TheVariants.{Open, OnDisk, OnFrames, Tool}
 use Rattle.macs_cli.specs.declared.words.action.DiskAction.{DiskAction}
-use Rattle.macs_cli.specs.declared.words.action.DiskAction.TheVariants.{Format, Apply, Show}
+use Rattle.macs_cli.specs.declared.words.action.DiskAction.TheVariants.{Format, Apply, Show, Keep}
 use Rattle.macs_cli.specs.declared.words.action.FrameAction.{FrameAction}
 use Rattle.macs_cli.specs.declared.words.action.FrameAction.TheVariants.{Protect, Validate, Relay}
 use Rattle.macs_cli.specs.declared.words.action.ToolAction.{ToolAction}
@@ -85,7 +85,8 @@ known_subcommands =
     (rule_for kind.Value (codes "DISK") ∷ rule_for kind.Value (codes "OWN1") ∷ rule_for kind.Value (codes "PEER1")
     ∷ rule_for kind.Value (codes "OWN2") ∷ rule_for kind.Value (codes "PEER2") ∷ rule_for kind.Count (codes "turns")
     ∷ rule_for kind.Wait (codes "wait") ∷ rule_for kind.Room (codes "buffer") ∷ rule_for kind.Named (codes "control")
-    ∷ rule_for kind.Named (codes "metrics") ∷ [])
+    ∷ rule_for kind.Named (codes "metrics") ∷ rule_for kind.Named (codes "keeper") ∷ [])
+    ∷ subcommand_with (codes "keep") (rule_for kind.Value (codes "DISK") ∷ rule_for kind.Value (codes "SOCKET") ∷ [])
     ∷ subcommand_with (codes "ask")
     (rule_for kind.Value (codes "PATH") ∷ rule_for kind.Value (codes "WORD") ∷ rule_for kind.Last (codes "FILE")
     ∷ rule_for kind.Flag (codes "json") ∷ [])
@@ -212,7 +213,7 @@ HasPlan values end which = (option_and_then end_named (first_of (codes "END") va
 abbrev pub IsFlagged : List Row → Text → Bool → Type 0
 IsFlagged values name is = (is ≡ true) ↔ HasText values name (codes "true")
 
--- a subcommand with its values names an action on an endpoint, without frames
+-- a subcommand with its values names an action on a disk file, without frames
 abbrev pub NamesOnDisk : Text × List Row → DiskAction → Type 0
 NamesOnDisk found (Format disk sci tx_block rx_block block is_over) =
     (found.0 ≡ codes "format") × HasText found.1 (codes "DISK") disk.now × HasText found.1 (codes "SCI") sci.now
@@ -221,6 +222,8 @@ NamesOnDisk found (Format disk sci tx_block rx_block block is_over) =
 NamesOnDisk found (Apply disk file) =
     (found.0 ≡ codes "apply") × HasText found.1 (codes "DISK") disk.now × HasText found.1 (codes "FILE") file.now
 NamesOnDisk found (Show disk) = (found.0 ≡ codes "show") × HasText found.1 (codes "DISK") disk.now
+NamesOnDisk found (Keep disk socket) =
+    (found.0 ≡ codes "keep") × HasText found.1 (codes "DISK") disk.now × HasText found.1 (codes "SOCKET") socket.now
 
 -- one that gives frames to an endpoint
 abbrev pub NamesOnFrames : Text × List Row → FrameAction → Type 0
@@ -238,6 +241,7 @@ NamesOnFrames found (Relay disk controlled common running) =
     × HasText found.1 (codes "OWN2") common.own.now × HasText found.1 (codes "PEER2") common.peer.now
     × HasPace found.1 running.pace × MayHaveRoom found.1 (codes "buffer") running.buffer
     × MayHaveText found.1 (codes "control") running.control × MayHaveText found.1 (codes "metrics") running.metrics
+    × MayHaveText found.1 (codes "keeper") running.keeper
 
 -- one that changes no disk
 abbrev pub NamesTool : Text × List Row → ToolAction → Type 0
@@ -351,6 +355,7 @@ name_of subcommand.Show = codes "show"
 name_of subcommand.Protect = codes "protect"
 name_of subcommand.Validate = codes "validate"
 name_of subcommand.Relay = codes "relay"
+name_of subcommand.Keep = codes "keep"
 name_of subcommand.Ask = codes "ask"
 name_of subcommand.Key = codes "key"
 name_of subcommand.Inspect = codes "inspect"

@@ -57,8 +57,8 @@ pub enum Failure {
     Commands,
     /// A wire cannot be bound.
     Wire,
-    /// A control socket cannot be bound; or no relay is listening on it, or the reply is not a
-    /// valid answer.
+    /// A control socket or that of a keeper cannot be bound; or no relay is listening on it, or the
+    /// reply is not a valid answer; or what comes to a keeper is not a request.
     Control,
     /// The system's random source fails.
     Random,

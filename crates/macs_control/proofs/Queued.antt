@@ -1,6 +1,6 @@
 -- Which commands wait while an attended relay runs: one that is taken comes last, and the first one is answered.
-use Rattle.std.proofs.Common.{◌≡◌, ◌++◌, inl, inr, ℕ, zero, suc, Bool, true, false, List, [], ◌∷◌, map, Result, Ok}
-use Rattle.std.proofs.Common.{Err, refl, sym, ap, ◌∙◌, subst, append-nil}
+use Rattle.std.proofs.Common.{◌≡◌, ◌++◌, inl, inr, ℕ, zero, suc, Bool, true, false, List, [], ◌∷◌, map, Option, Some}
+use Rattle.std.proofs.Common.{None, Result, Ok, Err, refl, sym, ap, ◌∙◌, subst, append-nil}
 use Rattle.macs_disk.specs.Disk.{Disk}
 use Rattle.macs_endpoint.specs.Value.{EndpointValue}
 use Rattle.macs_endpoint.specs.declared.fault.RefillFault.{RefillFault}
@@ -11,8 +11,8 @@ use Rattle.macs_endpoint.specs.declared.progress.Step.TheVariants.{Done, Idle, R
 use Rattle.macs_endpoint.specs.declared.queue.Waiting.{Waiting}
 use Rattle.macs_edge.specs.Attending.{Attends, AttendsTurns, Does, Obeys, TakesAllAttended, answers_of, failed_of}
 use Rattle.macs_edge.specs.Attending.{rests_after}
-use Rattle.macs_endpoint.specs.State.{Advanced, Advances}
-use Rattle.macs_edge.specs.Commanding.{Ended, done_by, ticket_in, tickets_of}
+use Rattle.std.specs.Prelude.{flat_map}
+use Rattle.macs_edge.specs.Commanding.{Ended, ended_by, ticket_in, tickets_of}
 use Rattle.macs_edge.specs.Relaying.{Relay, TakesTurn, empty_lane}
 use Rattle.macs_edge.specs.declared.attending.DeskEvent.{DeskEvent}
 use Rattle.macs_edge.specs.declared.attending.DeskEvent.TheVariants.{Answered, Rested, Took, Wanted}
@@ -102,17 +102,18 @@ module _ {D : Type 0} (disk_of : D → Disk) where
       subst (λ (l : List DeskEvent). Queues (tickets_of old.waiting) l (tickets_of new.waiting)) (sym is)
       (order-queue quiet old new order told does)
 
-  step-queue : (progress : Progress) (waiting left : List ℕ)
-      → waiting ≡ map (λ (e : Ended). e.ticket) (done_by Advances (Advanced (Ok progress))) ++ left
+  step-queue : (progress : Option Progress) (waiting left : List ℕ)
+      → waiting ≡ map (λ (e : Ended). e.ticket) (flat_map ended_by (answers_of progress)) ++ left
       → Queues waiting (answers_of progress) left
-  step-queue Idle waiting left is = sym is
-  step-queue Worked waiting left is = sym is
-  step-queue Reserved waiting left is = sym is
-  step-queue (Done ticket result) waiting left is = (left, is, refl)
+  step-queue None waiting left is = sym is
+  step-queue (Some Idle) waiting left is = sym is
+  step-queue (Some Worked) waiting left is = sym is
+  step-queue (Some Reserved) waiting left is = sym is
+  step-queue (Some (Done ticket result)) waiting left is = (left, is, refl)
 
   -- an attended turn
   turn-queues : (old between new : Relay D) (endpoint : EndpointValue D) (earlier before : List DeskEvent)
-      (quiet : Bool) (progress : Progress) → Attended disk_of old earlier between
+      (quiet : Bool) (progress : Option Progress) → Attended disk_of old earlier between
       → Obeys disk_of quiet between.endpoint before true endpoint
       → TakesTurn disk_of (Ok progress) (record between { endpoint = endpoint }) new
       → Queues (tickets_of between.endpoint.waiting) (before ++ answers_of progress) (tickets_of new.endpoint.waiting)

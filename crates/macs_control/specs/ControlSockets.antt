@@ -15,13 +15,13 @@ use Rattle.macs_control.specs.declared.control_socket.ControlSocket.{ControlSock
 use Rattle.macs_control.specs.declared.place.Place.{Place}
 use Rattle.macs_control.specs.declared.seats.Seats.{Seats}
 use Rattle.macs_control.specs.declared.watch.Watch.{Watch}
-use Rattle.macs_control.specs.declared.watch.Wires.{Wires}
+use Rattle.macs_control.specs.declared.watch.Sockets.{Sockets}
 
 -- before the first call: there are no clients, and a door exactly if a name is given
-pub record IsUnused {T L S : Type 0} (named : Bool) (wires : Wires) (limit : ℕ) (socket : ControlSocket T L S)
+pub record IsUnused {T L S : Type 0} (named : Bool) (sockets : Sockets) (limit : ℕ) (socket : ControlSocket T L S)
     : Type 0 where
   pub listens : is_some socket.door ≡ named
-  pub sleeps : (socket.wires ≡ wires) × (socket.limit ≡ limit)
+  pub sleeps : (socket.sockets ≡ sockets) × (socket.limit ≡ limit)
   pub empty : IsEmpty socket.seats
   pub looks : socket.second.last ≡ None
   pub heard : socket.has_heard ≡ false
@@ -73,10 +73,10 @@ abbrev pub greeting_of : {L : Type 0} → (L → ℤ) → Option L → Bool → 
 greeting_of number None room = negsuc 0
 greeting_of number (Some door) room = if room then number door else negsuc 0
 
--- the wires, the listening socket and the four clients
+-- the relay's own sockets, the listening socket and the four clients
 abbrev pub watch_of : {T L S : Type 0} → (L → ℤ) → (S → ℤ) → ControlSocket T L S → Watch
 watch_of door client socket = record {
-  wires = socket.wires;
+  sockets = socket.sockets;
   listener = greeting_of door socket.door (has_room (second_of socket.seats) (places_of socket.seats));
   first = socket_of client (slice_get (places_of socket.seats) 0);
   second = socket_of client (slice_get (places_of socket.seats) 1);

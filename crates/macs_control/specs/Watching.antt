@@ -7,8 +7,8 @@ use Rattle.macs_control.specs.declared.watch.Watch.{Watch}
 abbrev pub asks : ℤ → pollfd
 asks socket = record { fd = socket; events = pos 1; revents = pos 0 }
 
--- the sockets that are watched: both wires, the listening socket, and the clients
+-- the sockets that are watched: both wires, the keeper, the listening socket, and the clients
 abbrev pub watched : Watch → List ℤ
 watched watch =
-    watch.wires.controlled ∷ watch.wires.common ∷ watch.listener
+    watch.sockets.controlled ∷ watch.sockets.common ∷ watch.sockets.keeper ∷ watch.listener
     ∷ watch.first ∷ watch.second ∷ watch.third ∷ watch.fourth ∷ []

@@ -11,7 +11,7 @@ use crate::door::{Door, Watched};
 use crate::seats::{MAX_CLIENTS, Seats};
 use crate::second::EachSecond;
 use crate::signals::is_told_to_end;
-use crate::watch::{NO_SOCKET, Watch, Wires};
+use crate::watch::{NO_SOCKET, Watch, Sockets};
 use macs_commands::requests::{Client, Clients, Heard};
 use std::alloc::{AllocError, Global};
 use std::net::Net;
@@ -43,12 +43,12 @@ impl From<AllocError> for ControlFault {
     }
 }
 
-/// The clients of a relay, and its wires, on which it sleeps too.
+/// The clients of a relay, and its own sockets, on which it sleeps too.
 #[derive(Drop)]
 pub struct ControlSocket<'a, T, L = UnixListener, S = UnixStream> {
     rt: &'a T,
     alloc: Global,
-    wires: Wires,
+    sockets: Sockets,
     limit: u16,
     door: Option<L>,
     seats: Seats<S>,
@@ -158,20 +158,20 @@ impl<'a, T: Files + Net + Clock> ControlSocket<'a, T> {
     ghost use Rattle.macs_control.specs.ControlSockets.{IsUnused};
 
     /// Binds the control socket at `path`; without a path there are no clients. A sleep on it and
-    /// on these wires ends after `limit` milliseconds, at most 1,000. Fails with `Memory`, then
+    /// on these sockets ends after `limit` milliseconds, at most 1,000. Fails with `Memory`, then
     /// `Bind`.
     pub fn bind(
         rt: &'a T,
         alloc: Global,
         path: Option<&str>,
-        wires: Wires,
+        sockets: Sockets,
         limit: u16,
     ) -> Result<ControlSocket<'a, T>, ControlFault>
-        ensures { IfOk result (λ socket. IsUnused (is_some path.entry) wires limit socket) }
+        ensures { IfOk result (λ socket. IsUnused (is_some path.entry) sockets limit socket) }
     {
         let seats = Seats::new(alloc)?;
         let door = listener_at(rt, path)?;
-        Ok(ControlSocket::with_seats(rt, alloc, door, seats, wires, limit))
+        Ok(ControlSocket::with_seats(rt, alloc, door, seats, sockets, limit))
     }
 }
 
@@ -185,14 +185,14 @@ impl<'a, T: Files + Clock, L: Door<S>, S: Connection + Watched> ControlSocket<'a
         rt: &'a T,
         alloc: Global,
         door: Option<L>,
-        wires: Wires,
+        sockets: Sockets,
         limit: u16,
     ) -> Result<ControlSocket<'a, T, L, S>, AllocError>
-        ensures unused { IfOk result (λ socket. IsUnused (is_some door) wires limit socket) }
+        ensures unused { IfOk result (λ socket. IsUnused (is_some door) sockets limit socket) }
         ensures door { IfOk result (λ socket. socket.door ≡ door) }
     {
         let seats = Seats::new(alloc)?;
-        Ok(ControlSocket::with_seats(rt, alloc, door, seats, wires, limit))
+        Ok(ControlSocket::with_seats(rt, alloc, door, seats, sockets, limit))
     }
 
     /// The same with seats for its clients.
@@ -201,17 +201,17 @@ impl<'a, T: Files + Clock, L: Door<S>, S: Connection + Watched> ControlSocket<'a
         alloc: Global,
         door: Option<L>,
         seats: Seats<S>,
-        wires: Wires,
+        sockets: Sockets,
         limit: u16,
     ) -> ControlSocket<'a, T, L, S>
         requires { IsEmpty seats }
-        ensures unused { IsUnused (is_some door) wires limit result }
+        ensures unused { IsUnused (is_some door) sockets limit result }
         ensures door { result.door ≡ door }
     {
         ControlSocket {
             rt,
             alloc,
-            wires,
+            sockets,
             limit,
             door,
             seats,
@@ -238,7 +238,7 @@ impl<'a, T: Files + Clock, L: Door<S>, S: Connection + Watched> ControlSocket<'a
     {
         let seats = &self.seats;
         Watch {
-            wires: self.wires,
+            sockets: self.sockets,
             listener: self.greeting(),
             first: socket_at(seats, 0),
             second: socket_at(seats, 1),

@@ -1,6 +1,7 @@
-//! A disk that a process of its own keeps: the keeper makes the device calls that its client sends,
-//! and the client goes on with frames until the answer is there.
+//! A disk that a separate process keeps: the keeper makes the device calls that its client sends,
+//! and the client continues with frames until the answer is there.
 
+mod connecting;
 mod courier;
 mod cut;
 mod keeper;
@@ -8,6 +9,7 @@ mod kept_disk;
 mod taking;
 mod waiting;
 
+pub use connecting::connect;
 pub use cut::Cut;
 pub use keeper::{KeepEnd, keep_for};
 pub use kept_disk::KeptDisk;

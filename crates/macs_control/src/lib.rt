@@ -39,4 +39,4 @@ pub use seat::{Hearing, Seat};
 pub use seats::{MAX_CLIENTS, Seats};
 pub use signals::is_term_pending;
 pub use standing::Standing;
-pub use watch::{Watch, Wires};
+pub use watch::{NO_SOCKET, Sockets, Watch};

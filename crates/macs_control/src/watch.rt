@@ -8,7 +8,7 @@ use libc::types::pollfd;
 use std::os::fd::RawFd;
 
 /// The number in place of a missing descriptor: the system ignores it.
-pub(crate) const NO_SOCKET: RawFd = -1;
+pub const NO_SOCKET: RawFd = -1;
 
 /// Asks whether a socket is readable.
 fn readable(socket: RawFd) -> pollfd
@@ -34,22 +34,29 @@ pub(crate) fn wait_for(socket: RawFd, milliseconds: u16) -> bool {
     poll(&mut [readable(socket)], timeout(milliseconds)) > 0
 }
 
-/// The sockets of both wires.
+/// The sockets of a relay: those of both wires, and its connection to a keeper of its disk, which is
+/// -1 if there is none.
 #[derive(Clone, Copy)]
-pub struct Wires {
+pub struct Sockets {
     pub controlled: RawFd,
     pub common: RawFd,
+    pub keeper: RawFd,
 }
 
-impl Wires {
+impl Sockets {
     ghost use Rattle.std.specs.Prelude.{◌≡◌, ◌∷◌, []};
     ghost use Rattle.macs_control.specs.Watching.{asks};
 
-    /// What the system is asked, for both sockets.
-    fn asked(&self) -> [pollfd; 2]
-        ensures { result ≡ asks self.now.controlled ∷ asks self.now.common ∷ [] }
+    /// What the system is asked, for each of them.
+    fn asked(&self) -> [pollfd; 3]
+        ensures { result ≡ asks self.now.controlled ∷ asks self.now.common ∷ asks self.now.keeper
+            ∷ [] }
     {
-        [readable(self.controlled), readable(self.common)]
+        [
+            readable(self.controlled),
+            readable(self.common),
+            readable(self.keeper),
+        ]
     }
 
     /// Sleeps until one of them is readable, for at most this many milliseconds. What has already
@@ -59,10 +66,10 @@ impl Wires {
     }
 }
 
-/// What is watched: the sockets of both wires, the listening socket, and those of four clients.
+/// What is watched: the sockets of a relay, the listening socket, and those of four clients.
 #[derive(Clone, Copy)]
 pub struct Watch {
-    pub wires: Wires,
+    pub sockets: Sockets,
     pub listener: RawFd,
     pub first: RawFd,
     pub second: RawFd,
@@ -80,12 +87,13 @@ impl Watch {
     ghost use Rattle.macs_control.specs.Watching.{asks, watched};
 
     /// What the system is asked, for each of these sockets.
-    pub fn asked(&self) -> [pollfd; 7]
+    pub fn asked(&self) -> [pollfd; 8]
         ensures { result ≡ map asks (watched self.now) }
     {
         [
-            readable(self.wires.controlled),
-            readable(self.wires.common),
+            readable(self.sockets.controlled),
+            readable(self.sockets.common),
+            readable(self.sockets.keeper),
             readable(self.listener),
             readable(self.first),
             readable(self.second),
@@ -94,11 +102,11 @@ impl Watch {
         ]
     }
 
-    /// Sleeps until one of them is readable, as `Wires::sleep` does. Returns whether one other than
-    /// a wire is, or the call failed.
+    /// Sleeps until one of them is readable, as `Sockets::sleep` does. Returns whether the listening
+    /// socket or one of a client is, or the call failed.
     pub fn sleep(&self, milliseconds: u16) -> bool {
         let mut asked = self.asked();
         let found = poll(&mut asked, timeout(milliseconds));
-        found < 0 || is_any_found(&asked[2..])
+        found < 0 || is_any_found(&asked[3..])
     }
 }

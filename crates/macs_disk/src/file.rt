@@ -169,7 +169,7 @@ impl<F: DiskFile> FileDisk<F> {
         ensures past { self.new.past.items ≡ self.old.past.items }
     {
         let Ok(()) = self.file.sync() else {
-            // The disk goes on to show the file as it was: a failed sync changes nothing.
+            // The disk still shows the file as it was: a failed sync changes nothing.
             self.failures += 1;
             self.is_failed = true;
             return Err(DeviceFault);

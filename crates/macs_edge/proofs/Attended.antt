@@ -1,6 +1,6 @@
 -- An attended turn after others, and its parts.
-use Rattle.std.proofs.Common.{◌≡◌, ◌+◌, ◌++◌, ◌↔◌, ◌<◌, ℕ, Bool, false, IsTrue, List, [], ◌∷◌, Result, length, take}
-use Rattle.std.proofs.Common.{get_or, refl, sym, ap, ◌∙◌, subst, add-one}
+use Rattle.std.proofs.Common.{◌≡◌, ◌+◌, ◌++◌, ◌↔◌, ◌<◌, ℕ, Bool, false, IsTrue, List, [], ◌∷◌, Option, Result, length}
+use Rattle.std.proofs.Common.{take, get_or, refl, sym, ap, ◌∙◌, subst, add-one}
 use Rattle.std.proofs.lemmas.List.{map_more}
 use Rattle.macs_disk.specs.Disk.{Disk}
 use Rattle.macs_endpoint.specs.Value.{EndpointValue}
@@ -36,7 +36,7 @@ module _ {K : Type 0} (hears : K → DeskEvent → K → Type 0) where
 -- ---- turns
 
 pub attended-more : {D : Type 0} (disk_of : D → Disk) (n : ℕ) (old between new : Relay D)
-    (earlier last : List DeskEvent) (was_quiet quiet : Bool) (progress : Progress)
+    (earlier last : List DeskEvent) (was_quiet quiet : Bool) (progress : Option Progress)
     → TakesAllAttended disk_of n old earlier was_quiet between
     → TakesAttended disk_of was_quiet between last progress new
     → (IsTrue quiet ↔ IsQuiet progress between new)

@@ -1,11 +1,10 @@
 -- What goes each way of a relay that is attended, and what is reported to its desk.
-use Rattle.std.proofs.Common.{◌≡◌, ◌++◌, inl, inr, ℕ, zero, suc, Bool, true, false, List, [], ◌∷◌, map, Result, Ok, Err}
-use Rattle.std.proofs.Common.{refl, sym, ap, ◌∙◌, subst, append-nil, append_assoc}
+use Rattle.std.proofs.Common.{◌≡◌, ◌++◌, inl, inr, ℕ, zero, suc, Bool, true, false, List, [], ◌∷◌, map, Option, Result, Ok}
+use Rattle.std.proofs.Common.{Err, refl, sym, ap, ◌∙◌, subst, append-nil, append_assoc}
 use Rattle.std.specs.Prelude.{flat_map}
 use Rattle.std.proofs.lemmas.List.Concat.{flat_map-append}
 use Rattle.macs_disk.specs.Disk.{Disk}
 use Rattle.macs_endpoint.specs.Lives.{Transition}
-use Rattle.macs_endpoint.specs.State.{Advanced, Advances}
 use Rattle.macs_endpoint.specs.Value.{EndpointValue}
 use Rattle.macs_endpoint.specs.declared.fault.RefillFault.{RefillFault}
 use Rattle.macs_endpoint.specs.declared.fault.StepFault.{StepFault}
@@ -25,9 +24,8 @@ use Rattle.macs_edge.specs.declared.settling.Side.TheVariants.{Controlled, Commo
 use Rattle.macs_edge.proofs.Flowing.{Goes, flow-begins, given-append, goes-flows, turn-goes}
 use Rattle.macs_edge.proofs.Living.{lives-append}
 use Rattle.macs_edge.proofs.Matching.{Matches, ObeysWith, answered-append, failed-ended, failed-handed}
-use Rattle.macs_edge.proofs.Matching.{failed-tickets, failed-told, matches-append, matches-frames, matches-none}
-use Rattle.macs_edge.proofs.Matching.{matches-step, obeys-with, taken-append, told_of_step}
-use Rattle.macs_edge.proofs.Queueing.{step-waits}
+use Rattle.macs_edge.proofs.Matching.{failed-tickets, failed-told, matches-append, matches-frames, matches-last}
+use Rattle.macs_edge.proofs.Matching.{matches-none, obeys-with, taken-append, told-told, told_of_turn}
 
 -- what goes each way, and that the calls match what is reported to the desk
 pub record Attended {D : Type 0} (disk_of : D → Disk) (old : Relay D) (events : List DeskEvent) (new : Relay D)
@@ -77,12 +75,11 @@ module _ {D : Type 0} (disk_of : D → Disk) where
         so_far.matches with.matches;
   }
 
-  turn-on : (old between new : Relay D) (events : List DeskEvent) (answer : Result Progress StepFault)
+  turn-on : (old between new : Relay D) (events : List DeskEvent) (answer : Result (Option Progress) StepFault)
       → Attended disk_of old events between
-      → TakesTurn disk_of answer between new → Attended disk_of old (events ++ told_of_step answer) new
+      → TakesTurn disk_of answer between new → Attended disk_of old (events ++ told_of_turn answer) new
   turn-on old between new events answer so_far turn =
       let on = turn-goes disk_of answer old between new so_far.goes turn in
-      let last : Transition D = record { call = Advances; reply = Advanced answer; after = new.endpoint } in
       let framed = subst (λ (l : List DeskEvent). Matches old.endpoint l (so_far.goes.calls ++ on.frames) on.late)
       (append-nil events)
       (matches-append old.endpoint between.endpoint on.late events [] so_far.goes.calls on.frames so_far.matches
@@ -90,32 +87,35 @@ module _ {D : Type 0} (disk_of : D → Disk) where
       record {
         goes = on.goes;
         matches = subst
-            (λ (l : List (Transition D)). Matches old.endpoint (events ++ told_of_step answer) l new.endpoint)
+            (λ (l : List (Transition D)). Matches old.endpoint (events ++ told_of_turn answer) l new.endpoint)
             (sym on.calls)
-            (matches-append old.endpoint on.late new.endpoint events (told_of_step answer)
-            (so_far.goes.calls ++ on.frames) (last ∷ []) framed
-            (matches-step disk_of on.late new.endpoint answer on.step));
+            (matches-append old.endpoint on.late new.endpoint events (told_of_turn answer)
+            (so_far.goes.calls ++ on.frames) on.last.calls framed
+            (matches-last disk_of on.late new.endpoint answer on.last));
       }
 
   -- of the commands that wait a turn is done with the first one, where its step is done with one
-  pub turn-queue : (old between new : Relay D) (events : List DeskEvent) (answer : Result Progress StepFault)
+  pub turn-queue : (old between new : Relay D) (events : List DeskEvent) (answer : Result (Option Progress) StepFault)
       → Attended disk_of old events between → TakesTurn disk_of answer between new
       → tickets_of between.endpoint.waiting
-      ≡ map (λ (e : Ended). e.ticket) (done_by Advances (Advanced answer)) ++ tickets_of new.endpoint.waiting
+      ≡ map (λ (e : Ended). e.ticket) (flat_map ended_by (told_of_turn answer)) ++ tickets_of new.endpoint.waiting
   turn-queue old between new events answer so_far turn =
       let on = turn-goes disk_of answer old between new so_far.goes turn in
       let still = matches-frames disk_of on.frames between.endpoint on.late on.lives on.are_frames in
+      let last = matches-last disk_of on.late new.endpoint answer on.last in
       sym (append-nil (tickets_of between.endpoint.waiting)) ∙ still.queue
-      ∙ step-waits disk_of on.late new.endpoint answer on.step
+      ∙ sym (append-nil (tickets_of on.late.waiting))
+      ∙ ap (λ (l : List (Result ℕ SubmitFault)). tickets_of on.late.waiting ++ flat_map ticket_in l)
+      (sym (told-told answer)) ∙ last.queue
 
   -- what is done before a turn, and the turn
   attended-turn : (old between new : Relay D) (endpoint : EndpointValue D) (events before : List DeskEvent)
-      (quiet : Bool) (answer : Result Progress StepFault)
+      (quiet : Bool) (answer : Result (Option Progress) StepFault)
       → Attended disk_of old events between → Obeys disk_of quiet between.endpoint before true endpoint
       → TakesTurn disk_of answer (record between { endpoint = endpoint }) new
-      → Attended disk_of old (events ++ (before ++ told_of_step answer)) new
+      → Attended disk_of old (events ++ (before ++ told_of_turn answer)) new
   attended-turn old between new endpoint events before quiet answer so_far wants turn =
-      subst (λ (l : List DeskEvent). Attended disk_of old l new) (append_assoc events before (told_of_step answer))
+      subst (λ (l : List DeskEvent). Attended disk_of old l new) (append_assoc events before (told_of_turn answer))
       (turn-on old (record between { endpoint = endpoint }) new (events ++ before) answer
       (obeys old between endpoint events before so_far
       (obeys-with disk_of quiet true between.endpoint endpoint before wants)) turn)

@@ -19,7 +19,8 @@ use Rattle.macs_endpoint.specs.declared.fault.RefillFault.{RefillFault}
 use Rattle.macs_endpoint.specs.declared.fault.StepFault.{StepFault}
 use Rattle.macs_endpoint.specs.declared.progress.Step.{Step as Progress}
 use Rattle.macs_edge.specs.Flows.{AllBut, Became, Flow, IsFlow, Sent, TakenOff, given, given_at, given_by}
-use Rattle.macs_edge.specs.Relaying.{Becomes, Carries, FillsWaiting, Forwards, HandsWaiting, LaneValue, Relay, Relays}
+use Rattle.macs_edge.specs.Relaying.{Becomes, Carries, FillsWaiting, Forwards, HandsWaiting, LaneValue, Progresses}
+use Rattle.macs_edge.specs.Relaying.{Relay, Relays}
 use Rattle.macs_edge.specs.Relaying.{TakesTurn, TakesTurns, Way, empty_lane, one_dropped, one_left, summary_of, way_of}
 use Rattle.macs_edge.specs.Settling.{Settles, Waits, call_on}
 use Rattle.macs_edge.specs.Wires.{Gives, WireState, saturated}
@@ -27,6 +28,7 @@ use Rattle.macs_edge.specs.declared.relaying.Tally.{Tally}
 use Rattle.macs_edge.specs.declared.settling.Side.{Side}
 use Rattle.macs_edge.specs.declared.settling.Side.TheVariants.{Controlled, Common}
 use Rattle.macs_edge.specs.declared.wire.Got.TheVariants.{Nothing, Frame, TooLong}
+use Rattle.macs_edge.proofs.LastCalls.{LastCalls, last-calls, last_call}
 use Rattle.macs_edge.proofs.Living.{lives-append}
 
 -- ---- numbers
@@ -555,18 +557,18 @@ pub record Goes {D : Type 0} (disk_of : D → Disk) (old new : Relay D) : Type 0
   pub out : Flow old.controlled new.controlled old.common new.common (given Controlled calls) new.to_common
   pub back : Flow old.common new.common old.controlled new.controlled (given Common calls) new.to_controlled
 
--- the same after one turn more: these calls hand frames in, and a step follows them
+-- the same after one turn more: these calls hand frames in, and the disk work follows them
 pub record GoesOn {D : Type 0} (disk_of : D → Disk) (old between : Relay D) (before : List (Transition D))
-    (answer : Result Progress StepFault)
+    (answer : Result (Option Progress) StepFault)
     (new : Relay D) : Type 0 where
   pub goes : Goes disk_of old new
   pub frames : List (Transition D)
   pub late : EndpointValue D
   pub lives : Lives disk_of between.endpoint frames late
   pub are_frames : AreFrames frames
-  pub step : IsCall disk_of late Advances (Advanced answer) new.endpoint
-  pub calls : goes.calls ≡ (before ++ frames) ++
-      record { call = Advances; reply = Advanced answer; after = new.endpoint } ∷ []
+  pub progresses : Progresses disk_of late answer new.endpoint
+  pub last : LastCalls disk_of late answer new.endpoint
+  pub calls : goes.calls ≡ (before ++ frames) ++ last.calls
 
 pub flow-begins : (from to : WireState) (lane : LaneValue) → lane ≡ empty_lane → Flow from from to to [] lane
 flow-begins from to lane is = subst (λ (l : LaneValue). Flow from from to to [] l) (sym is) (record {
@@ -604,7 +606,21 @@ module _ {D : Type 0} (disk_of : D → Disk) where
       → all ++ given side calls ≡ all
   none-behind side all calls none = ap (λ (l : List (List ℕ)). all ++ l) none ∙ append-nil all
 
-  pub turn-goes : (answer : Result Progress StepFault) (old between new : Relay D) (goes : Goes disk_of old between)
+  given-one : (side : Side) (answer : Result (Option Progress) StepFault) (new : EndpointValue D)
+      → given side (last_call answer new ∷ []) ≡ []
+  given-one Controlled answer new = refl
+  given-one Common answer new = refl
+
+  -- the disk work gives no frame
+  given-last : (side : Side) (late new : EndpointValue D) (answer : Result (Option Progress) StepFault)
+      (last : LastCalls disk_of late answer new) → given side last.calls ≡ []
+  given-last side late new answer last =
+      elim last.are [
+        | inl one ↦ ap (given side) one.0 ∙ given-one side answer new
+        | inr none ↦ ap (given side) none.0
+      ]
+
+  pub turn-goes : (answer : Result (Option Progress) StepFault) (old between new : Relay D) (goes : Goes disk_of old between)
       → TakesTurn disk_of answer between new
       → GoesOn disk_of old between goes.calls answer new
   turn-goes answer old between new goes (late, (endpoint, controlled, common, carries_out, carries_back), sound, step) =
@@ -613,7 +629,7 @@ module _ {D : Type 0} (disk_of : D → Disk) where
       (way_of endpoint controlled common new.to_common) carries_out in
       let two = carries-moves disk_of Common (way_of endpoint common controlled between.to_controlled)
       (way_of late new.common new.controlled new.to_controlled) carries_back in
-      let three : Transition D = record { call = Advances; reply = Advanced answer; after = new.endpoint } in
+      let last = last-calls disk_of late new.endpoint sound answer step in
       let lives_one =
       lives-append disk_of old.endpoint between.endpoint endpoint goes.calls one.calls goes.lives one.lives in
       let lives_two =
@@ -622,10 +638,11 @@ module _ {D : Type 0} (disk_of : D → Disk) where
       let out_all = flow-aside old.controlled controlled new.controlled old.common common new.common
       (given Controlled goes.calls ++ given Controlled one.calls)
       (((given Controlled goes.calls ++ given Controlled one.calls) ++ given Controlled two.calls)
-      ++ given Controlled (three ∷ []))
+      ++ given Controlled last.calls)
       new.to_common new.to_common out_one two.to_waiting two.to_receives two.from_sent two.from_sends
       (none-behind Controlled
-      ((given Controlled goes.calls ++ given Controlled one.calls) ++ given Controlled two.calls) (three ∷ []) refl
+      ((given Controlled goes.calls ++ given Controlled one.calls) ++ given Controlled two.calls) last.calls
+      (given-last Controlled late new.endpoint answer last)
       ∙ none-behind Controlled (given Controlled goes.calls ++ given Controlled one.calls) two.calls two.there) refl in
       let back_one = flow-aside old.common between.common common old.controlled between.controlled controlled
       (given Common goes.calls) (given Common goes.calls ++ given Common one.calls)
@@ -634,27 +651,28 @@ module _ {D : Type 0} (disk_of : D → Disk) where
       let back_two = two.here old.common old.controlled (given Common goes.calls ++ given Common one.calls) back_one in
       let back_all = flow-aside old.common new.common new.common old.controlled new.controlled new.controlled
       ((given Common goes.calls ++ given Common one.calls) ++ given Common two.calls)
-      (((given Common goes.calls ++ given Common one.calls) ++ given Common two.calls) ++ given Common (three ∷ []))
+      (((given Common goes.calls ++ given Common one.calls) ++ given Common two.calls) ++ given Common last.calls)
       new.to_controlled new.to_controlled back_two refl refl refl refl
-      (none-behind Common ((given Common goes.calls ++ given Common one.calls) ++ given Common two.calls) (three ∷ [])
-      refl) refl in
+      (none-behind Common ((given Common goes.calls ++ given Common one.calls) ++ given Common two.calls) last.calls
+      (given-last Common late new.endpoint answer last)) refl in
       record {
         goes = record {
-          calls = ((goes.calls ++ one.calls) ++ two.calls) ++ three ∷ [];
+          calls = ((goes.calls ++ one.calls) ++ two.calls) ++ last.calls;
           lives = lives-append disk_of old.endpoint late new.endpoint ((goes.calls ++ one.calls) ++ two.calls)
-              (three ∷ []) lives_two (sound, step.0, refl);
+              last.calls lives_two last.lives;
           out = subst (λ (l : List (List ℕ)). Flow old.controlled new.controlled old.common new.common l new.to_common)
-              (given-behind Controlled goes.calls one.calls two.calls (three ∷ [])) out_all;
+              (given-behind Controlled goes.calls one.calls two.calls last.calls) out_all;
           back = subst
               (λ (l : List (List ℕ)). Flow old.common new.common old.controlled new.controlled l new.to_controlled)
-              (given-behind Common goes.calls one.calls two.calls (three ∷ [])) back_all;
+              (given-behind Common goes.calls one.calls two.calls last.calls) back_all;
         };
         frames = one.calls ++ two.calls;
         late = late;
         lives = lives-append disk_of between.endpoint endpoint late one.calls two.calls one.lives two.lives;
         are_frames = frames-append one.calls two.calls one.frames two.frames;
-        step = step.0;
-        calls = ap (λ (l : List (Transition D)). l ++ three ∷ []) (append_assoc goes.calls one.calls two.calls);
+        progresses = step;
+        last = last;
+        calls = ap (λ (l : List (Transition D)). l ++ last.calls) (append_assoc goes.calls one.calls two.calls);
       }
 
   turns-go : (turns : ℕ) (old new : Relay D) → old.to_common ≡ empty_lane → old.to_controlled ≡ empty_lane

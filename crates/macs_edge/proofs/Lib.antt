@@ -7,6 +7,7 @@ pub mod Told
 pub mod Once
 pub mod AllRecords
 pub mod Whole
+pub mod LastCalls
 pub mod Flowing
 mod ByDatagrams
 pub mod Queueing

@@ -3,7 +3,7 @@ use Rattle.std.proofs.Common.{ℕ, zero, suc, Bool, true, List, [], ◌∷◌, �
 use Rattle.std.proofs.Common.{inr, refl, ap, subst}
 use Rattle.macs_disk.specs.Disk.{Disk}
 use Rattle.macs_endpoint.specs.Lives.{LivesOn}
-use Rattle.macs_endpoint.specs.State.{Advanced, Advances, Submits, Submitted}
+use Rattle.macs_endpoint.specs.State.{Submits, Submitted}
 use Rattle.macs_endpoint.specs.Value.{EndpointValue}
 use Rattle.macs_endpoint.specs.declared.fault.RefillFault.{RefillFault}
 use Rattle.macs_endpoint.specs.declared.fault.StepFault.{StepFault}
@@ -22,6 +22,7 @@ use Rattle.macs_edge.specs.declared.attending.Order.{Order}
 use Rattle.macs_edge.specs.declared.attending.Order.TheVariants.{Go, Submit, End}
 use Rattle.macs_edge.specs.declared.settling.Side.{Side}
 use Rattle.macs_edge.specs.declared.settling.Side.TheVariants.{Controlled, Common}
+use Rattle.macs_edge.proofs.LastCalls.{last-calls}
 use Rattle.macs_edge.proofs.Living.{lives-append}
 
 module _ {D : Type 0} (disk_of : D → Disk) where
@@ -71,7 +72,7 @@ module _ {D : Type 0} (disk_of : D → Disk) where
   lives-carries side old new (from, lane, fills, hands) =
       lives-hands side lane.waiting (way_of old.endpoint from old.to lane) new hands
 
-  lives-turn : (answer : Result Progress StepFault) (old new : Relay D) → TakesTurn disk_of answer old new
+  lives-turn : (answer : Result (Option Progress) StepFault) (old new : Relay D) → TakesTurn disk_of answer old new
       → LivesOn disk_of old.endpoint new.endpoint
   lives-turn answer old new (endpoint, (mid, controlled, common, one, two), sound, step) =
       behind old.endpoint endpoint new.endpoint
@@ -80,7 +81,7 @@ module _ {D : Type 0} (disk_of : D → Disk) where
       (way_of mid controlled common new.to_common) one)
       (lives-carries Common (way_of mid common controlled old.to_controlled)
       (way_of endpoint new.common new.controlled new.to_controlled) two))
-      (record { call = Advances; reply = Advanced answer; after = new.endpoint } ∷ [], (sound, step.0, refl))
+      (let last = last-calls disk_of endpoint new.endpoint sound answer step in (last.calls, last.lives))
 
   -- ---- relays that are attended
 
@@ -95,7 +96,7 @@ module _ {D : Type 0} (disk_of : D → Disk) where
       → Obeys disk_of quiet old events follows new → LivesOn disk_of old new
   lives-obeys quiet follows old new events (order, told, which, does, is) = lives-does order old new told does
 
-  lives-attended-turn : (quiet : Bool) (answer : Result Progress StepFault) (old new : Relay D)
+  lives-attended-turn : (quiet : Bool) (answer : Result (Option Progress) StepFault) (old new : Relay D)
       (endpoint : EndpointValue D) (events : List DeskEvent)
       → Obeys disk_of quiet old.endpoint events true endpoint
       → TakesTurn disk_of answer (record old { endpoint = endpoint }) new

@@ -1,5 +1,5 @@
 -- What passes between a relay and its desk, besides the calls of the endpoint.
-use Rattle.std.proofs.Common.{◌≡◌, ◌++◌, ℕ, Bool, List, [], ◌∷◌, map, Result, Ok, Err, refl, sym, ap, ◌∙◌, subst}
+use Rattle.std.proofs.Common.{◌≡◌, ◌++◌, inl, inr, ℕ, Bool, List, [], ◌∷◌, map, Option, Some, None, Result, Ok, Err, refl, sym, ap, ◌∙◌, subst}
 use Rattle.std.proofs.Common.{append-nil, append_assoc}
 use Rattle.std.specs.Prelude.{flat_map}
 use Rattle.std.proofs.lemmas.List.{map-append}
@@ -27,6 +27,7 @@ use Rattle.macs_edge.specs.declared.attending.Order.{Order}
 use Rattle.macs_edge.specs.declared.attending.Order.TheVariants.{Go, Submit, End}
 use Rattle.macs_edge.specs.Flows.{given}
 use Rattle.macs_edge.specs.declared.settling.Side.TheVariants.{Controlled, Common}
+use Rattle.macs_edge.proofs.LastCalls.{LastCalls, last_call, step_answer}
 use Rattle.macs_edge.proofs.Flowing.{AreFrames, IsFrame}
 use Rattle.macs_edge.proofs.Queueing.{frame-waits, step-waits, submit-waits}
 
@@ -88,30 +89,33 @@ frame-ends Advances reply frame = absurd frame
 -- ---- a step
 
 -- what is reported to a desk of the step of a turn, also where it is refused
-abbrev pub told_of_step : Result Progress StepFault → List DeskEvent
-told_of_step (Ok progress) = answers_of progress
-told_of_step (Err fault) = []
+abbrev pub told_of_turn : Result (Option Progress) StepFault → List DeskEvent
+told_of_turn (Ok progress) = answers_of progress
+told_of_turn (Err fault) = []
 
-told-ended : (answer : Result Progress StepFault)
-    → flat_map ended_by (told_of_step answer) ≡ done_by Advances (Advanced answer)
-told-ended (Ok Idle) = refl
-told-ended (Ok Worked) = refl
-told-ended (Ok Reserved) = refl
-told-ended (Ok (Done ticket result)) = refl
+told-ended : (answer : Result (Option Progress) StepFault)
+    → flat_map ended_by (told_of_turn answer) ≡ done_by Advances (Advanced (step_answer answer))
+told-ended (Ok None) = refl
+told-ended (Ok (Some Idle)) = refl
+told-ended (Ok (Some Worked)) = refl
+told-ended (Ok (Some Reserved)) = refl
+told-ended (Ok (Some (Done ticket result))) = refl
 told-ended (Err fault) = refl
 
-told-handed : (answer : Result Progress StepFault) → flat_map handed_in_by (told_of_step answer) ≡ []
-told-handed (Ok Idle) = refl
-told-handed (Ok Worked) = refl
-told-handed (Ok Reserved) = refl
-told-handed (Ok (Done ticket result)) = refl
+told-handed : (answer : Result (Option Progress) StepFault) → flat_map handed_in_by (told_of_turn answer) ≡ []
+told-handed (Ok None) = refl
+told-handed (Ok (Some Idle)) = refl
+told-handed (Ok (Some Worked)) = refl
+told-handed (Ok (Some Reserved)) = refl
+told-handed (Ok (Some (Done ticket result))) = refl
 told-handed (Err fault) = refl
 
-told-told : (answer : Result Progress StepFault) → flat_map told_by (told_of_step answer) ≡ []
-told-told (Ok Idle) = refl
-told-told (Ok Worked) = refl
-told-told (Ok Reserved) = refl
-told-told (Ok (Done ticket result)) = refl
+pub told-told : (answer : Result (Option Progress) StepFault) → flat_map told_by (told_of_turn answer) ≡ []
+told-told (Ok None) = refl
+told-told (Ok (Some Idle)) = refl
+told-told (Ok (Some Worked)) = refl
+told-told (Ok (Some Reserved)) = refl
+told-told (Ok (Some (Done ticket result))) = refl
 told-told (Err fault) = refl
 
 -- ---- what matches
@@ -164,20 +168,31 @@ module _ {D : Type 0} (disk_of : D → Disk) where
       matches-append a turn.after b [] [] (turn ∷ []) turns (matches-frame a turn.after turn frames.0 lives.1)
       (matches-frames turns turn.after b lives.2 frames.1)
 
-  -- ---- a step
+  -- ---- the disk work
 
-  pub matches-step : (a b : EndpointValue D) (answer : Result Progress StepFault)
-      → IsCall disk_of a Advances (Advanced answer) b
-      → let turn : Transition D = record { call = Advances; reply = Advanced answer; after = b } in Matches a
-      (told_of_step answer) (turn ∷ []) b
+  matches-step : (a b : EndpointValue D) (answer : Result (Option Progress) StepFault)
+      → IsCall disk_of a Advances (Advanced (step_answer answer)) b
+      → Matches a (told_of_turn answer) (last_call answer b ∷ []) b
   matches-step a b answer is = record {
     handed = told-handed answer;
     told = told-told answer;
-    ended = told-ended answer ∙ sym (append-nil (done_by Advances (Advanced answer)));
+    ended = told-ended answer ∙ sym (append-nil (done_by Advances (Advanced (step_answer answer))));
     queue = ap (λ (l : List (Result ℕ SubmitFault)). tickets_of a.waiting ++ flat_map ticket_in l) (told-told answer)
-        ∙ append-nil (tickets_of a.waiting) ∙ step-waits disk_of a b answer is
+        ∙ append-nil (tickets_of a.waiting) ∙ step-waits disk_of a b (step_answer answer) is
         ∙ ap (λ (l : List Ended). map (λ (e : Ended). e.ticket) l ++ tickets_of b.waiting) (sym (told-ended answer));
   }
+
+  pub matches-last : (a b : EndpointValue D) (answer : Result (Option Progress) StepFault)
+      (last : LastCalls disk_of a answer b) → Matches a (told_of_turn answer) last.calls b
+  matches-last a b answer last =
+      elim last.are [
+        | inl one ↦ subst (λ (l : List (Transition D)). Matches a (told_of_turn answer) l b) (sym one.0)
+            (matches-step a b answer one.1)
+        | inr none ↦
+            subst (λ (l : List (Transition D)). Matches a (told_of_turn answer) l b) (sym none.0)
+            (subst (λ (r : Result (Option Progress) StepFault). Matches a (told_of_turn r) [] b) (sym none.1)
+            (subst (λ (e : EndpointValue D). Matches a [] [] e) (sym none.2) (matches-none a)))
+      ]
 
   -- ---- what is done before a turn
 

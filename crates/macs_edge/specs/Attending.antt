@@ -1,6 +1,6 @@
 -- A relay that a desk attends: what the desk orders before each turn, and what is reported to it about its commands.
 use Rattle.std.specs.Prelude.{◌≡◌, ◌⊎◌, ◌↔◌, ◌<◌, ◌++◌, ℕ, zero, suc, Bool, true, false, IsTrue, List, [], ◌∷◌, map}
-use Rattle.std.specs.Prelude.{IfOk, Result, Ok, Err}
+use Rattle.std.specs.Prelude.{IfOk, Option, Some, Result, Ok, Err}
 use Rattle.macs_disk.specs.Disk.{Disk}
 use Rattle.macs_endpoint.specs.Calls.{IsCall}
 use Rattle.macs_endpoint.specs.Faults.{refill_fault_named}
@@ -44,12 +44,13 @@ Obeys disk_of was_quiet old events follows new = (order : Order) × (told : List
 -- ---- turns
 
 -- what a step reports to the desk: the result of the command that it completes
-abbrev pub answers_of : Progress → List DeskEvent
-answers_of (step.Done ticket result) = Answered ticket (end.Done result) ∷ []
+abbrev pub answers_of : Option Progress → List DeskEvent
+answers_of (Some (step.Done ticket result)) = Answered ticket (end.Done result) ∷ []
 answers_of progress = []
 
 -- a turn, with what is done before it and what it reports
-abbrev pub TakesAttended : {D : Type 0} → (D → Disk) → Bool → Relay D → List DeskEvent → Progress → Relay D → Type 0
+abbrev pub TakesAttended : {D : Type 0} → (D → Disk) → Bool → Relay D → List DeskEvent → Option Progress → Relay D
+    → Type 0
 TakesAttended {D} disk_of was_quiet old events progress new = (before : List DeskEvent) × (endpoint : EndpointValue D)
     × Obeys disk_of was_quiet old.endpoint before true endpoint
     × TakesTurn disk_of (Ok progress) (record old { endpoint = endpoint }) new
@@ -65,7 +66,7 @@ abbrev pub TakesAllAttended : {D : Type 0} → (D → Disk) → ℕ → Relay D 
 TakesAllAttended disk_of zero old events quiet new = (events ≡ []) × (quiet ≡ false) × (new ≡ old)
 TakesAllAttended {D} disk_of (suc turns) old events quiet new = (between : Relay D) × (earlier : List DeskEvent)
     × (was_quiet : Bool)
-    × (last : List DeskEvent) × (progress : Progress)
+    × (last : List DeskEvent) × (progress : Option Progress)
     × TakesAllAttended disk_of turns old earlier was_quiet between
     × TakesAttended disk_of was_quiet between last progress new
     × (IsTrue quiet ↔ IsQuiet progress between new) × (events ≡ earlier ++ last ++ rests_after quiet)

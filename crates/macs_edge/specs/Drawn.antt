@@ -1,6 +1,6 @@
 -- What follows from definitions of turns and steps, of records that pass, of sleeps, and of sockets whose datagrams are
 -- known.
-use Rattle.std.specs.Prelude.{◌≡◌, ◌≢◌, ◌<◌, ◌≤◌, ◌⊎◌, ◌↔◌, ◌+◌, ◌-◌, ◌^◌, ◌++◌, ℕ}
+use Rattle.std.specs.Prelude.{◌≡◌, ◌≢◌, ◌<◌, ◌≤◌, ◌⊎◌, ◌↔◌, ◌+◌, ◌-◌, ◌^◌, ◌++◌, ℕ, true}
 use Rattle.std.specs.Prelude.{[], ◌∷◌, Result}
 use Rattle.std.specs.Prelude.{OnErr, OnOk}
 use Rattle.macs_disk.specs.Disk.{Disk}
@@ -12,6 +12,15 @@ use Rattle.macs_edge.specs.Relaying.{summary_of}
 use Rattle.macs_edge.specs.declared.relaying.RelaySummary.{RelaySummary}
 
 -- ---- turns
+
+-- each disk of this type is prompt
+abbrev pub ArePrompt : {D : Type 0} → (D → Disk) → Type 0
+ArePrompt {D} disk_of = (device : D) → (disk_of device).prompt ≡ true
+
+-- A relay that starts with empty lanes is a flow with at most one step per turn.
+abbrev pub FlowsWithin : {D : Type 0} → (D → Disk) → ℕ → Relay D → Relay D → Type 0
+FlowsWithin disk_of turns old new = (flow : IsFlow disk_of old new (summary_of new.to_common new.to_controlled))
+    × (steps_made flow.calls ≤ turns)
 
 -- A relay that starts with empty lanes is a flow with one step per turn: as many steps as turns if its result is Ok,
 -- and at most as many if a step is answered with a fault.

@@ -4,6 +4,7 @@ use Rattle.std.specs.Prelude.{Ok, Err}
 use Rattle.macs_disk.specs.Disk.{Disk}
 use Rattle.macs_endpoint.specs.Calls.{IsCall, IsStep}
 use Rattle.macs_endpoint.specs.Faults.{refill_fault_named}
+use Rattle.macs_endpoint.specs.Halves.{Awaits}
 use Rattle.macs_endpoint.specs.State.{Reply}
 use Rattle.macs_endpoint.specs.Step.{IsStopped}
 use Rattle.macs_endpoint.specs.Value.{EndpointValue, IsSoundEndpoint}
@@ -145,16 +146,23 @@ CarriesBoth {D} disk_of old new = (endpoint : EndpointValue D) × (controlled : 
     × Carries disk_of Common (way_of endpoint common controlled old.to_controlled)
     (way_of new.endpoint new.common new.controlled new.to_controlled)
 
--- a turn, with the answer of its step
-abbrev pub TakesTurn : {D : Type 0} → (D → Disk) → Result Progress StepFault → Relay D → Relay D → Type 0
+-- the disk work of a turn: a step, or none while a device call of the work under way has no answer
+abbrev pub Progresses : {D : Type 0} → (D → Disk) → EndpointValue D → Result (Option Progress) StepFault
+    → EndpointValue D → Type 0
+Progresses disk_of old (Ok (Some step)) new = IsStep disk_of old (Ok step) new
+Progresses disk_of old (Ok None) new = Awaits disk_of old new
+Progresses disk_of old (Err fault) new = IsStep disk_of old (Err fault) new
+
+-- a turn, with the answer of its step, if it has one
+abbrev pub TakesTurn : {D : Type 0} → (D → Disk) → Result (Option Progress) StepFault → Relay D → Relay D → Type 0
 TakesTurn {D} disk_of answer old new = (endpoint : EndpointValue D)
     × CarriesBoth disk_of old (record new { endpoint = endpoint })
-    × IsSoundEndpoint endpoint × IsStep disk_of endpoint answer new.endpoint
+    × IsSoundEndpoint endpoint × Progresses disk_of endpoint answer new.endpoint
 
--- this many turns, each with a step that is answered Ok
+-- this many turns, of which no step is answered with a fault
 abbrev pub TakesTurns : {D : Type 0} → (D → Disk) → ℕ → Relay D → Relay D → Type 0
 TakesTurns disk_of zero old new = new ≡ old
-TakesTurns {D} disk_of (suc turns) old new = (between : Relay D) × (progress : Progress)
+TakesTurns {D} disk_of (suc turns) old new = (between : Relay D) × (progress : Option Progress)
     × TakesTurns disk_of turns old between × TakesTurn disk_of (Ok progress) between new
 
 -- ---- a run

@@ -103,9 +103,12 @@ fn obey<D: SectorDisk, P: Wire, C: Wire, K: Desk<D, P, C>>(
 }
 
 /// Reports the result of the command that a step completes.
-fn tell<D: SectorDisk, P: Wire, C: Wire, K: Desk<D, P, C>>(desk: &mut K, step: Step)
+fn tell<D: SectorDisk, P: Wire, C: Wire, K: Desk<D, P, C>>(desk: &mut K, step: Option<Step>)
     ensures { InTurn K.hears desk.old (answers_of step) desk.new }
 {
+    let Some(step) = step else {
+        return;
+    };
     match step {
         Step::Done(ticket, result) => desk.answered(ticket, CommandEnd::Done(result)),
         Step::Idle | Step::Worked | Step::Reserved => {}
@@ -175,9 +178,9 @@ fn attend_turns<D: SectorDisk, P: Wire, C: Wire, K: Desk<D, P, C>>(
 /// requested end comes at once, with no further turn. After a turn whose step completes a command
 /// the desk is given its result.
 ///
-/// The desk rests once after each quiet turn, and after no other: one whose step found no work,
-/// which leaves both lanes empty, and in which neither a frame nor a failed call of a wire was
-/// counted. A rest touches neither the endpoint nor the wires.
+/// The desk rests once after each quiet turn, and after no other: one whose step found no work, or
+/// in which the disk has not answered; which leaves both lanes empty, and in which neither a frame
+/// nor a failed call of a wire was counted. A rest touches neither the endpoint nor the wires.
 ///
 /// At the end, even after a refused step, each command that is still pending is answered as failed.
 /// So each command that was taken is answered once, in the order of tickets.

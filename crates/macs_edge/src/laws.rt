@@ -6,7 +6,7 @@ ghost use Rattle.macs_endpoint.specs.State.{State};
 ghost use Rattle.macs_endpoint.specs.declared.fault.RefillFault.{RefillFault};
 ghost use Rattle.macs_edge.specs.Attending.{Attends};
 ghost use Rattle.macs_edge.specs.Commanding.{IsAttendedFlow};
-ghost use Rattle.macs_edge.specs.Drawn.{FlowsInTurns};
+ghost use Rattle.macs_edge.specs.Drawn.{ArePrompt, FlowsInTurns, FlowsWithin};
 ghost use Rattle.macs_edge.specs.Flows.{IsFlow};
 ghost use Rattle.macs_edge.specs.CaptureRuns.{BecomesCapture, Passes};
 ghost use Rattle.macs_edge.specs.Relaying.{Relay, Relays, empty_lane, summary_of};
@@ -52,11 +52,14 @@ pub fn attended<D: SectorDisk>()
         → IsAttendedFlow D.disk old events new (summary_of new.to_common new.to_controlled) }
 {}
 
-/// A relay makes one step per turn: as many as it has turns, or fewer if a step is answered with a
-/// fault.
+/// A relay makes at most one step per turn. Over prompt disks it makes one: as many as it has
+/// turns, or fewer if a step is answered with a fault.
 pub fn steps_are_turns<D: SectorDisk>()
-    ensures { (turns : ℕ) (old new : Relay D) (result : Result RelaySummary RefillFault)
+    ensures within { (turns : ℕ) (old new : Relay D) (result : Result RelaySummary RefillFault)
         → old.to_common ≡ empty_lane → old.to_controlled ≡ empty_lane
+        → Relays D.disk turns old result new → FlowsWithin D.disk turns old new }
+    ensures prompt { (turns : ℕ) (old new : Relay D) (result : Result RelaySummary RefillFault)
+        → ArePrompt D.disk → old.to_common ≡ empty_lane → old.to_controlled ≡ empty_lane
         → Relays D.disk turns old result new
         → FlowsInTurns D.disk turns old result new }
 {}

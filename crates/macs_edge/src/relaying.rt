@@ -1,7 +1,7 @@
 //! A turn of a relay: a frame each way between two wires through an endpoint.
 
 ghost use Rattle.std.specs.Prelude.{◌≡◌, ◌↔◌, IsTrue, Some, None};
-ghost use Rattle.macs_edge.specs.Relaying.{Carries, Fills, Forwards, HandsOver};
+ghost use Rattle.macs_edge.specs.Relaying.{Carries, Fills, Forwards, HandsOver, Progresses};
 ghost use Rattle.macs_edge.specs.Relaying.{TakesTurn, empty_lane, lane_value, one_left, relay_of};
 ghost use Rattle.macs_edge.specs.Relaying.{summary_of, way_of};
 ghost use Rattle.macs_edge.specs.Resting.{AllRest};
@@ -172,7 +172,18 @@ pub(crate) fn summed(to_common: &Lane, to_controlled: &Lane) -> RelaySummary
     }
 }
 
-/// One turn: a frame each way, and one step of the disk work.
+/// One step of the disk work. `None` while its device call has no answer.
+fn progress<D: SectorDisk>(endpoint: &mut Endpoint<D>) -> Result<Option<Step>, StepFault>
+    ensures { Progresses D.disk endpoint.old result endpoint.new }
+{
+    match endpoint.try_step() {
+        Some(Ok(step)) => Ok(Some(step)),
+        Some(Err(fault)) => Err(fault),
+        None => Ok(None),
+    }
+}
+
+/// One turn: a frame each way, and one step of the disk work, if the disk has answered.
 pub(crate) fn turn<D: SectorDisk, P: Wire, C: Wire>(
     endpoint: &mut Endpoint<D>,
     controlled: &mut P,
@@ -180,7 +191,7 @@ pub(crate) fn turn<D: SectorDisk, P: Wire, C: Wire>(
     to_common: &mut Lane,
     to_controlled: &mut Lane,
     out: &mut FrameBuf,
-) -> Result<Step, StepFault>
+) -> Result<Option<Step>, StepFault>
     ensures { TakesTurn D.disk result
         (relay_of endpoint.old (P.state controlled.old) (C.state common.old)
         (lane_value to_common.old) (lane_value to_controlled.old))
@@ -204,13 +215,13 @@ pub(crate) fn turn<D: SectorDisk, P: Wire, C: Wire>(
         out,
     );
     endpoint.facts();
-    endpoint.step()
+    progress(endpoint)
 }
 
-/// Whether a turn was quiet: its step found no work, both lanes are empty after it, and neither a
-/// frame nor a failed call of a wire was counted in it.
+/// Whether a turn was quiet: its step found no work, or the disk has not answered; both lanes are
+/// empty after it, and neither a frame nor a failed call of a wire was counted in it.
 pub(crate) fn was_quiet(
-    step: &Step,
+    step: &Option<Step>,
     out_before: Tally,
     back_before: Tally,
     to_common: &Lane,
@@ -220,7 +231,7 @@ pub(crate) fn was_quiet(
         (lane_value to_common.now) (lane_value to_controlled.now) }
 {
     match step {
-        Step::Idle => to_common.rests(out_before) && to_controlled.rests(back_before),
-        Step::Worked | Step::Reserved | Step::Done(_, _) => false,
+        Some(Step::Idle) | None => to_common.rests(out_before) && to_controlled.rests(back_before),
+        Some(Step::Worked | Step::Reserved | Step::Done(_, _)) => false,
     }
 }

@@ -65,7 +65,8 @@ impl<I: Idle, D: SectorDisk, P: Wire, C: Wire> Desk<D, P, C> for Unattended<I> {
 /// Relays frames between two wires, for `turns` turns. In each turn a plain frame is taken from the
 /// controlled wire, protected, and sent on the common wire; then a frame is taken from the common
 /// wire, and sent on the controlled wire if it is delivered; then the disk work advances by one
-/// `step`, if there is any: at most one device call comes between two frames. A frame that waits
+/// `step`, if there is any: at most one device call comes between two frames. A turn in which the
+/// disk has not answered a call has no step; over a prompt disk each has one. A frame that waits
 /// for packet numbers stays in its lane for the next turn, and no other is taken on its side. No
 /// frame is sent twice, not even after a failed send.
 ///

@@ -1,6 +1,6 @@
-//! Captures as files and through an endpoint, command files with each wrong value, want of memory,
-//! wires, the lines of a control socket and the desk that answers them, and a disk that a keeper
-//! keeps.
+//! Captures as files and through an endpoint, command files with each wrong value, memory that is
+//! refused, wires, the lines of a control socket and the desk that answers them, and a disk that a
+//! keeper keeps.
 
 mod capture_files;
 mod captures;

@@ -22,7 +22,7 @@ pub fn one_first_refusal<R>()
         × ((r : R) → ¬ IsFirst (λ r. IsTrue (holds r)) refusals r) }
 {}
 
-/// Octets are below 2^8: a proof that calls this learns it of octets behind a reference.
+/// Octets are below 2^8: a proof that calls this learns it about octets behind a reference.
 pub fn octets_in_range(octets: &[u8])
     ensures { All (λ octet. octet < 2 ^ 8) octets.now }
 {}

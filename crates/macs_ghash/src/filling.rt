@@ -174,7 +174,7 @@ pub(crate) fn room<const N: usize>() -> [[Part; N]; 16] {
     [row; 16]
 }
 
-/// Blocks are below 2^128: a proof that calls this learns it of blocks behind a reference.
+/// Blocks are below 2^128: a proof that calls this learns it about blocks behind a reference.
 #[inline(always)]
 fn blocks_in_range(blocks: &[u128])
     ensures { All (λ block. block < 2 ^ 128) blocks.now }

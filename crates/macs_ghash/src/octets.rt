@@ -27,7 +27,7 @@ pub(crate) const LAST: [u8; 32] = [
     128, 128, 128, 128, 128, 128, 128, 128, 128, 128, 128, 128, 128,
 ];
 
-/// Octets are below 2^8: a proof that calls this learns it of octets behind a reference.
+/// Octets are below 2^8: a proof that calls this learns it about octets behind a reference.
 #[inline(always)]
 pub(crate) fn octets_in_range(octets: &[u8])
     ensures { All (λ octet. octet < 2 ^ 8) octets.now }
@@ -59,7 +59,7 @@ pub(crate) fn right_halves(x: Simd<u8, OCTETS>) -> Simd<u8, OCTETS>
     x & Simd::splat(15)
 }
 
-/// The right half of each octet in the place of the left one.
+/// The right half of each octet, moved to the place of the left one.
 #[inline(always)]
 fn raised(x: Simd<u8, OCTETS>) -> Simd<u8, OCTETS>
     ensures { (g j : ℕ) → g < SIXTEENS → j < 16 → octets_in result g j ≡ octets_in x g j % 16 * 16 }

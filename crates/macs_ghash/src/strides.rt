@@ -12,7 +12,7 @@ use crate::strings::{behind_zeros, input_blocks};
 use crate::tables::{Part, products};
 use std::simd::prelude::*;
 
-/// For each octet of a block, the place of its sixteen that `octets_of` puts it at.
+/// For each octet of a block, the place among its sixteen where `octets_of` puts it.
 pub(crate) const FLIPPED: [u8; 32] = [
     7, 6, 5, 4, 3, 2, 1, 0, 15, 14, 13, 12, 11, 10, 9, 8, 7, 6, 5, 4, 3, 2, 1, 0, 15, 14, 13, 12,
     11, 10, 9, 8,

@@ -26,6 +26,6 @@ pub(crate) fn open_head<D: SectorDisk>(disk: &mut D, area: Area) -> Result<(), D
 {
     disk.sync()?; // The bodies and closed gates are durable before the head is opened.
     disk.write(area.head_gate(), &open_gate())?;
-    disk.sync()?; // The head stands before that is answered.
+    disk.sync()?; // The head is durable before the answer.
     Ok(())
 }

@@ -1,13 +1,12 @@
 -- The endpoint that a subcommand opens on a disk in a file.
-use Rattle.std.specs.Prelude.{◌≡◌, ◌⊎◌, Result}
+use Rattle.std.specs.Prelude.{◌≡◌, ◌⊎◌}
 use Rattle.macs_disk.specs.FileDisks.{IsFresh, IsMadeWell, IsOpened, disk_in_file, file_given, file_made, layout_of}
 use Rattle.macs_disk.specs.Files.{FileState}
 use Rattle.macs_disk.specs.declared.file.FileDisk.{FileDisk}
 use Rattle.macs_disk.specs.declared.file_fault.FileFault.{FileFault}
-use Rattle.macs_endpoint.specs.Opening.{IsOpening, Opens, RefusesOpening}
+use Rattle.macs_endpoint.specs.Opening.{Opens, RefusesOpening}
 use Rattle.macs_endpoint.specs.Value.{EndpointValue}
 use Rattle.macs_journal.specs.declared.fault.JournalFault.{JournalFault}
-use Rattle.macs_journal.specs.declared.recovery.RecoverRefused.{RecoverRefused}
 use Rattle.macs_cli.specs.Failing.{failure_of_file, failure_of_journal}
 use Rattle.macs_cli.specs.declared.failure.Failure.{Failure}
 
@@ -16,13 +15,6 @@ pub record IsDiskIn {F : Type 0} (file : F → FileState) (disk : FileDisk F) : 
   pub known : IsMadeWell file (file_given disk) (file_made disk)
       → IsOpened (file (file_given disk)) 0 (layout_of disk) (disk_in_file file disk)
   pub fresh : IsFresh (disk_in_file file disk)
-
--- the result of opening an endpoint on such a disk
-pub record IsOpeningIn {F : Type 0} (file : F → FileState)
-    (opened : Result (EndpointValue (FileDisk F)) (RecoverRefused (FileDisk F))) : Type 0 where
-  pub disk : FileDisk F
-  pub is_disk : IsDiskIn file disk
-  pub opening : IsOpening (disk_in_file file) disk opened
 
 -- an endpoint was opened on such a disk
 pub record IsEndpointIn {F : Type 0} (file : F → FileState) (endpoint : EndpointValue (FileDisk F)) : Type 0 where

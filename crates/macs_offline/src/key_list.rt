@@ -147,8 +147,8 @@ fn is_spent(list: &str, key: &Option<String>) -> bool
     }
 }
 
-/// The index, counting from 1, of the first of these keys, by their digits, that the list has as a
-/// key of an endpoint that is gone.
+/// The index, counting from 1, of the first of these keys that the list has as a key of an endpoint
+/// that is gone. The keys are given by their digits.
 fn first_spent(list: &str, keys: &[Option<String>]) -> Option<usize>
     ensures { MatchOption result
         (All (λ key. ¬ IsSpentIn list.now key) (map (option_map string_bytes) keys.now))

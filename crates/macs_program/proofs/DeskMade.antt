@@ -6,13 +6,13 @@ use Rattle.macs_control.specs.ControlSockets.{IsUnused}
 use Rattle.macs_control.specs.MetricsFiles.{IsPlaceAt}
 use Rattle.macs_control.specs.Unanswered.{entries_of}
 use Rattle.macs_control.specs.declared.metrics_file.MetricsPlace.{MetricsPlace}
-use Rattle.macs_control.specs.declared.watch.Wires.{Wires}
+use Rattle.macs_control.specs.declared.watch.Sockets.{Sockets}
 use Rattle.macs_texts.specs.declared.program.Program.{Program}
 use Rattle.macs_program.specs.About.{IsThisBuild}
 use Rattle.macs_program.specs.Attendants.{IsNewDesk, SystemClients, SystemDesk, sleep_of}
 use Rattle.macs_program.specs.declared.relay_system.RelaySystem.{RelaySystem}
 
-pub desk-made : {T : Type 0} (disk : List ℕ) (running : Running) (sockets : Wires) (program : Program)
+pub desk-made : {T : Type 0} (disk : List ℕ) (running : Running) (sockets : Sockets) (program : Program)
     (clients : SystemClients T) (metrics : MetricsPlace T) (system : RelaySystem T) (desk : SystemDesk T)
     → desk.program ≡ program → desk.clients ≡ clients → desk.metrics ≡ metrics → desk.system ≡ system
     → entries_of desk.unanswered ≡ [] → desk.good ≡ 0 → desk.turns_left ≡ 63 → IsThisBuild program.build

@@ -24,31 +24,48 @@ use Rattle.macs_offline.specs.Applying.{AppliesAll, AppliesSome, EndsRun, SaidBy
 use Rattle.macs_offline.specs.Applying.{is_for, outcome_lines, own_sci}
 use Rattle.macs_program.specs.Capturing.{EndsPass, PassesCapture}
 use Rattle.macs_program.specs.Endpoints.{AppliesIn, BreaksOff, BreaksOffIn}
-use Rattle.macs_offline.specs.Openings.{IsDiskIn, IsOpeningIn, OpeningFails}
+use Rattle.macs_offline.specs.Openings.{IsDiskIn, OpeningFails}
 use Rattle.macs_program.specs.Endpoints.{PassEndsIn, PassesIn, ShowsIn, shown_text}
 use Rattle.macs_cli.specs.Failing.{failure_of_file, failure_of_journal, failure_status}
 use Rattle.macs_program.specs.Summing.{pass_status, summary_line}
-use Rattle.macs_program.specs.Tasks.{DoesApply, DoesPass, DoesShow, Doing, IsRunIn}
+use Rattle.macs_program.specs.Tasks.{DoesApply, DoesPass, DoesShow, Doing, IsRunIn, IsRunOn}
 use Rattle.macs_cli.specs.declared.failure.Failure.{Failure}
 use Rattle.macs_cli.specs.declared.failure.Failure.TheVariants.{Capture, Commands, Memory, Output}
 use Rattle.macs_cli.specs.declared.status.Status.{Status}
 use Rattle.macs_cli.specs.declared.status.Status.TheVariants as ends
 
--- ---- opening
-
-pub opening-in : {F : Type 0} (file : F → FileState) (disk : FileDisk F)
-    (opened : Result (EndpointValue (FileDisk F)) (RecoverRefused (FileDisk F)))
-    → IsDiskIn file disk → IsOpening (disk_in_file file) disk opened → IsOpeningIn file opened
-opening-in file disk opened there opening = record { disk = disk; is_disk = there; opening = opening }
+-- ---- on a disk
 
 -- no command of an endpoint that was opened waits
-pub none-waits : {F : Type 0} (file : F → FileState) (old : EndpointValue (FileDisk F))
-    (opened : Result (EndpointValue (FileDisk F)) (RecoverRefused (FileDisk F)))
-    → opened ≡ Ok old → IsOpeningIn file opened → old.waiting ≡ []
-none-waits {F} file old opened is there =
-    opened-none (disk_in_file file) there.disk old
-    (subst (λ (r : Result (EndpointValue (FileDisk F)) (RecoverRefused (FileDisk F))).
-    IsOpening (disk_in_file file) there.disk r) is there.opening)
+pub none-waits : {D : Type 0} (disk_of : D → Disk) (disk : D) (old : EndpointValue D)
+    (opened : Result (EndpointValue D) (RecoverRefused D))
+    → opened ≡ Ok old → IsOpening disk_of disk opened → old.waiting ≡ []
+none-waits {D} disk_of disk old opened is opening =
+    opened-none disk_of disk old
+    (subst (λ (r : Result (EndpointValue D) (RecoverRefused D)). IsOpening disk_of disk r) is opening)
+
+module _ {D W : Type 0} (disk_of : D → Disk) (done : Doing D W) (before : W) (disk : D)
+    (opened : Result (EndpointValue D) (RecoverRefused D)) (opening : IsOpening disk_of disk opened) where
+  pub refused-on : (refused : RecoverRefused D) (failure : Failure) → opened ≡ Err refused
+      → failure ≡ failure_of_journal refused.fault → IsRunOn disk_of done disk before (Err failure) before
+  refused-on refused failure is same = inl (record {
+    left = refused.disk;
+    fault = refused.fault;
+    refuses = subst (λ (r : Result (EndpointValue D) (RecoverRefused D)). IsOpening disk_of disk r) is opening;
+    is = ap (λ (f : Failure). Err {T = Status} f) same;
+    silent = refl;
+  })
+
+  pub done-on : (after : W) (old new : EndpointValue D) (result : Result Status Failure) → opened ≡ Ok old
+      → done old before result new after → IsRunOn disk_of done disk before result after
+  done-on after old new result is does = inr (record {
+    old = old;
+    new = new;
+    opens = subst (λ (r : Result (EndpointValue D) (RecoverRefused D)). IsOpening disk_of disk r) is opening;
+    does = does;
+  })
+
+-- ---- on a disk in a file
 
 module _ {F W : Type 0} (file : F → FileState) (done : Doing (FileDisk F) W) (before : W) where
   -- there is no disk in the file
@@ -57,39 +74,27 @@ module _ {F W : Type 0} (file : F → FileState) (done : Doing (FileDisk F) W) (
   no-disk fault failure result is same (cause, given) =
       inl (record { failure = failure; is = is; fails = inl (cause, same ∙ given); silent = refl })
 
-  pub refused-in : (refused : RecoverRefused (FileDisk F))
-      (opened : Result (EndpointValue (FileDisk F)) (RecoverRefused (FileDisk F))) (failure : Failure)
-      → opened ≡ Err refused → IsOpeningIn file opened → failure ≡ failure_of_journal refused.fault
-      → IsRunIn file done before (Err failure) before
-  refused-in refused opened failure is there same = inl (record {
-    failure = failure;
-    is = refl;
+  -- there is one
+  pub run-in : (disk : FileDisk F) (after : W) (result : Result Status Failure) → IsDiskIn file disk
+      → IsRunOn (disk_in_file file) done disk before result after → IsRunIn file done before result after
+  run-in disk after result there (inl refused) = inl (record {
+    failure = failure_of_journal refused.fault;
+    is = refused.is;
     fails = inr (record {
-      disk = there.disk;
-      left = refused.disk;
+      disk = disk;
+      left = refused.left;
       fault = refused.fault;
-      is_disk = there.is_disk;
-      refuses = subst (λ (r : Result (EndpointValue (FileDisk F)) (RecoverRefused (FileDisk F))).
-          IsOpening (disk_in_file file) there.disk r) is there.opening;
-      is = same;
+      is_disk = there;
+      refuses = refused.refuses;
+      is = refl;
     });
-    silent = refl;
+    silent = refused.silent;
   })
-
-  pub done-in : (after : W) (old new : EndpointValue (FileDisk F))
-      (opened : Result (EndpointValue (FileDisk F)) (RecoverRefused (FileDisk F)))
-      (result : Result Status Failure) → opened ≡ Ok old → IsOpeningIn file opened → done old before result new after
-      → IsRunIn file done before result after
-  done-in after old new opened result is there does = inr (record {
-    old = old;
-    new = new;
-    endpoint = record {
-      disk = there.disk;
-      is_disk = there.is_disk;
-      opens = subst (λ (r : Result (EndpointValue (FileDisk F)) (RecoverRefused (FileDisk F))).
-          IsOpening (disk_in_file file) there.disk r) is there.opening;
-    };
-    does = does;
+  run-in disk after result there (inr ran) = inr (record {
+    old = ran.old;
+    new = ran.new;
+    endpoint = record { disk = disk; is_disk = there; opens = ran.opens };
+    does = ran.does;
   })
 
 -- ---- commands

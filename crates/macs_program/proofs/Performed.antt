@@ -16,6 +16,7 @@ use Rattle.macs_offline.specs.Checking.{CheckEnds, CheckFails, Checks}
 use Rattle.macs_program.specs.Inputs.{InputRead}
 use Rattle.macs_offline.specs.Inspecting.{InspectFails, Inspects, IsOfInspecting, PrintsFrames}
 use Rattle.macs_program.specs.Judging.{PrintsVerdicts}
+use Rattle.macs_program.specs.Keeping.{FailsToKeep, KeepsIn, outcome_of}
 use Rattle.macs_offline.specs.Keys.{GivesKey, IsOfKey}
 use Rattle.macs_offline.specs.Plans.{PlanFails, PrintsPlan}
 use Rattle.macs_program.specs.Run.{Does, FailsAs, Performs, Prints, WrongValues}
@@ -30,7 +31,7 @@ use Rattle.macs_cli.specs.declared.status.Status.{Status}
 use Rattle.macs_cli.specs.declared.status.Status.TheVariants as ends
 use Rattle.macs_cli.specs.declared.words.action.Action.{Action}
 use Rattle.macs_cli.specs.declared.words.action.Action.TheVariants.{Open, OnDisk, OnFrames, Tool}
-use Rattle.macs_cli.specs.declared.words.action.DiskAction.TheVariants.{Format, Apply, Show}
+use Rattle.macs_cli.specs.declared.words.action.DiskAction.TheVariants.{Format, Apply, Show, Keep}
 use Rattle.macs_cli.specs.declared.words.action.FrameAction.TheVariants.{Protect, Validate, Relay}
 use Rattle.macs_cli.specs.declared.words.action.ToolAction.TheVariants.{Ask, Key, Inspect, Check, Plan, Examine, About}
 use Rattle.macs_cli.specs.declared.words.action.WireEnds.{WireEnds}
@@ -38,7 +39,9 @@ use Rattle.macs_cli.specs.declared.words.action.Question.{Question}
 use Rattle.macs_cli.specs.declared.words.action.Question.TheVariants as question
 use Rattle.macs_cli.specs.declared.words.pace.Running.{Running}
 use Rattle.macs_offline.proofs.Examined.{examining-no-usage, said-status}
-use Rattle.macs_offline.proofs.Failures.{output-no-usage}
+use Rattle.macs_control.specs.declared.keeping.keeper.KeepEnd.{KeepEnd}
+use Rattle.macs_control.specs.declared.keeping.keeper.KeepEnd.TheVariants as keeping
+use Rattle.macs_offline.proofs.Failures.{disk-no-output, disk-no-usage, of-file, output-no-usage}
 use Rattle.macs_offline.proofs.Tried.{of-trial, spent-no-usage, trial-no-usage}
 
 -- a failure of the disk is not one of the output
@@ -122,6 +125,38 @@ planning-no-usage left_in name end stage failure (inr (inr (octets, inl (inr (te
     λ e. let f = sym e ∙ ap failure_status is in cc
 planning-no-usage left_in name end stage failure (inr (inr (octets, inr (refusal, is, refuses), by_file))) =
     λ e. let f = sym e ∙ ap failure_status is in cc
+
+-- the work of a keeper is done, or its failure is that of the socket
+kept-done : (end : KeepEnd) (status : Status) → outcome_of end ≡ Ok status → status ≡ ends.Done
+kept-done keeping.Ungreeted status is = let e : Ok ends.Done ≡ Ok status = is in cc
+kept-done keeping.Ended status is = let e : Ok ends.Done ≡ Ok status = is in cc
+kept-done keeping.Unanswered status is = let e : Ok ends.Done ≡ Ok status = is in cc
+kept-done keeping.Gone status is = absurd (let e : Err failures.Control ≡ Ok status = is in cc)
+kept-done keeping.Malformed status is = absurd (let e : Err failures.Control ≡ Ok status = is in cc)
+kept-done keeping.Outside status is = absurd (let e : Err failures.Control ≡ Ok status = is in cc)
+
+kept-control : (end : KeepEnd) (failure : Failure) → outcome_of end ≡ Err failure → failure ≡ failures.Control
+kept-control keeping.Ungreeted failure is = absurd (let e : Ok ends.Done ≡ Err failure = is in cc)
+kept-control keeping.Ended failure is = absurd (let e : Ok ends.Done ≡ Err failure = is in cc)
+kept-control keeping.Unanswered failure is = absurd (let e : Ok ends.Done ≡ Err failure = is in cc)
+kept-control keeping.Gone failure is = let e : Err failures.Control ≡ Err failure = is in cc
+kept-control keeping.Malformed failure is = let e : Err failures.Control ≡ Err failure = is in cc
+kept-control keeping.Outside failure is = let e : Err failures.Control ≡ Err failure = is in cc
+
+control-no-usage : (failure : Failure) → failure ≡ failures.Control
+    → (failure_status failure ≢ ends.Usage) × (failure ≢ Output)
+control-no-usage failure is = (
+  (λ usage. let e = ap failure_status (sym is) ∙ usage in cc),
+  (λ output. let e = sym is ∙ output in cc),
+)
+
+-- nor is one of `keep` a wrong usage, or one of the output
+keeping-no-usage : {F : Type 0} (state_of : F → FileState) (failure : Failure) → FailsToKeep state_of failure
+    → (failure_status failure ≢ ends.Usage) × (failure ≢ Output)
+keeping-no-usage state_of failure (inl (fault, is)) =
+    (disk-no-usage failure (of-file fault failure is), disk-no-output failure (of-file fault failure is))
+keeping-no-usage state_of failure (inr (inl nobody)) = control-no-usage failure nobody.is
+keeping-no-usage state_of failure (inr (inr (end, is, kept))) = control-no-usage failure (kept-control end failure is)
 
 done-or-refused : (refused : Bool) → ((if refused then ends.Refused else ends.Done) ≡ ends.Done)
     ⊎ ((if refused then ends.Refused else ends.Done) ≡ ends.Refused)
@@ -235,6 +270,21 @@ module _ {F W : Type 0} (T : Type 0) (state_of : F → FileState) (left_in : F �
     before = before silent;
     fails = fails;
     broken = broken;
+  }
+
+  -- nothing is printed by a keeper
+  pub keeps : (disk socket : Bor (List ℕ)) → new ≡ old → IfOk result (KeepsIn state_of)
+      → IfErr result (FailsToKeep state_of)
+      → Performs T state_of left_in contents failed (OnDisk (Keep disk socket)) input old result new
+  keeps disk socket same done fails = record {
+    does = IfOk-weaker result _ _ (λ status all. (all, ap contents same)) done;
+    status = IfOk-weaker result _ _ (λ status all. let (end, is, kept) = all in inl (kept-done end status is)) done;
+    usage = IfErr-weaker result _ _ (λ failure is usage. absurd ((keeping-no-usage state_of failure is).0 usage)) fails;
+    disk = IfErr-weaker result _ _ (λ failure is disk. ((λ is. absurd cc), ap contents same)) fails;
+    before = IfErr-weaker result _ _ (λ failure is other. ap contents same) fails;
+    fails = fails;
+    broken = IfErr-weaker result _ _ (λ failure is output. absurd ((keeping-no-usage state_of failure is).1 output))
+        fails;
   }
 
   pub protects : (disk from to : Bor (List ℕ)) (is_all : Bool)

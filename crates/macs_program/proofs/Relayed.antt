@@ -15,6 +15,7 @@ use Rattle.macs_endpoint.specs.declared.fault.RefillFault.{RefillFault}
 use Rattle.macs_endpoint.specs.declared.fault.RefillFault.TheVariants as refill
 use Rattle.macs_endpoint.specs.declared.fault.RestFault.{RestFault}
 use Rattle.macs_endpoint.specs.declared.fault.RestFault.TheVariants as rest
+use Rattle.macs_journal.specs.declared.fault.JournalFault.{JournalFault}
 use Rattle.macs_journal.specs.declared.fault.JournalFault.TheVariants as journal
 use Rattle.macs_fields.specs.First.{IsFirst}
 use Rattle.macs_cli.specs.declared.words.action.WireEnds.{WireEnds}
@@ -24,12 +25,14 @@ use Rattle.macs_offline.proofs.Failures.{disk-no-output, of-opening}
 use Rattle.macs_offline.proofs.Tried.{of-look}
 use Rattle.macs_cli.specs.Addresses.{AddressFaultHolds, SpellsBoth, address_faults}
 use Rattle.macs_offline.specs.Openings.{OpeningFails}
-use Rattle.macs_cli.specs.Failing.{failure_of_refill, failure_status}
+use Rattle.macs_cli.specs.Failing.{failure_of_journal, failure_of_refill, failure_status}
 use Rattle.macs_program.specs.Relaying.{ComesTo, Course, Ends, IsAfterAddresses, IsOfRelay, IsRun, IsUnbound}
 use Rattle.macs_program.specs.Relaying.{RelayEndsIn, Reports, RestsIf, course_of, course_with, is_attended, new_wire}
 use Rattle.macs_program.specs.Relaying.{rest_result, summary_after}
 use Rattle.macs_program.specs.Summing.{relay_line}
-use Rattle.macs_program.specs.Tasks.{DoesRelay, IsRunIn}
+use Rattle.macs_program.specs.Tasks.{DoesRelay, IsRunIn, IsRunOn}
+use Rattle.macs_control.specs.KeptDisks.{KeptDiskValue, kept_disk}
+use Rattle.macs_program.specs.KeptRelays.{ComesToKept, HasNoWires, KeepingFails, RelayEndsKept}
 use Rattle.macs_cli.specs.declared.addresses.AddressFault.{AddressFault}
 use Rattle.macs_cli.specs.declared.failure.DiskFault.{DiskFault}
 use Rattle.macs_cli.specs.declared.failure.DiskFault.TheVariants as disk
@@ -268,19 +271,20 @@ as-wanted T disk_of contents has_failed disk running is old before result new af
 
 -- ---- what `relay` comes to
 
-pub record RelayedIn {F W : Type 0} (file : F → FileState) (contents : W → Option (List ℕ)) (has_failed : W → Bool)
-    (controlled common : WireEnds)
-    (course : Course) (before : W) (result : Result Status Failure) (after : W) : Type 0 where
+-- where there are wires, an endpoint that is opened, and a relay that ends so or so
+pub record RelayedAs {W : Type 0} (Comes : RelaySummary → Type 0) (HasNone Fails Ends : Failure → Type 0)
+    (contents : W → Option (List ℕ)) (has_failed : W → Bool) (controlled common : WireEnds) (before : W)
+    (result : Result Status Failure) (after : W) : Type 0 where
   pub printed : IfOk result
-      (λ status. (summary : RelaySummary) × ComesTo file course summary × SpellsBoth controlled common
+      (λ status. (summary : RelaySummary) × Comes summary × SpellsBoth controlled common
       × Appends (contents before) (contents after) (relay_line summary) × (status ≡ ends.Done))
   pub address : (fault : AddressFault)
       → (result ≡ Err (Address fault)) ↔ IsFirst (AddressFaultHolds controlled common) address_faults fault
   pub usage : IfErr result (λ failure. failure_status failure ≡ ends.Usage
       → ((fault : AddressFault) × AddressFaultHolds controlled common fault) × (after ≡ before))
   pub ended : IfErr result (λ failure. ((fault : AddressFault) × (failure ≡ Address fault)
-      × IsFirst (AddressFaultHolds controlled common) address_faults fault) ⊎ IsUnbound file failure
-      ⊎ OpeningFails file failure ⊎ RelayEndsIn file course failure)
+      × IsFirst (AddressFaultHolds controlled common) address_faults fault) ⊎ HasNone failure
+      ⊎ Fails failure ⊎ Ends failure)
   pub names : IfErr result IsOfRelay
   pub silent : IfErr result (λ failure. failure ≢ failures.Output → after ≡ before)
   pub broken : IfErr result (λ failure. failure ≡ failures.Output → has_failed after ≡ true)
@@ -292,106 +296,210 @@ disk-behind file failure fails = elim (of-opening file failure fails) [
   | inr fault ↦ subst IsAfterAddresses (sym fault.1) tt
 ]
 
-module _ {F W T : Type 0} (file : F → FileState) (contents : W → Option (List ℕ)) (has_failed : W → Bool)
-    (controlled common : WireEnds) (course : Course)
+module _ {W T : Type 0} (Comes : RelaySummary → Type 0) (HasNone Fails Ends : Failure → Type 0)
+    (contents : W → Option (List ℕ)) (has_failed : W → Bool) (controlled common : WireEnds)
     (before : W) (addresses : Result T AddressFault)
     (exactly : (fault : AddressFault)
     → (addresses ≡ Err fault) ↔ IsFirst (AddressFaultHolds controlled common) address_faults fault) where
-  abbrev Comes : Result Status Failure → W → Type 0
-  Comes result after = RelayedIn file contents has_failed controlled common course before result after
+  abbrev Is : Result Status Failure → W → Type 0
+  Is result after = RelayedAs Comes HasNone Fails Ends contents has_failed controlled common before result after
 
-  pub refused-in : (fault : AddressFault) (failure : Failure) (result : Result Status Failure) → addresses ≡ Err fault
-      → result ≡ Err failure
-      → failure ≡ Address fault → RelayedIn file contents has_failed controlled common course before result before
-  refused-in fault failure result was is same =
-      let first = (exactly fault).0 was in
-      subst (λ (r : Result Status Failure). Comes r before) (sym is) (record {
+  -- an address is refused
+  pub refused-as : (failure : Failure) (cause : AddressFault) (result : Result Status Failure)
+      → addresses ≡ Err cause → result ≡ Err failure → failure ≡ Address cause
+      → RelayedAs Comes HasNone Fails Ends contents has_failed controlled common before result before
+  refused-as failure cause result was is same =
+      let first = (exactly cause).0 was in
+      subst (λ (r : Result Status Failure). Is r before) (sym is) (record {
         printed = tt;
         address = address-handed {U = Status} (AddressFaultHolds controlled common) address_faults addresses
-            (Err failure) fault failure was refl same exactly;
-        usage = λ usage. ((fault, first-holds (AddressFaultHolds controlled common) address_faults fault first), refl);
-        ended = inl (fault, same, first);
+            (Err failure) cause failure was refl same exactly;
+        usage = λ usage. ((cause, first-holds (AddressFaultHolds controlled common) address_faults cause first), refl);
+        ended = inl (cause, same, first);
         names = subst IsOfRelay (sym same) tt;
         silent = λ other. refl;
         broken = λ output. absurd (let e = sym same ∙ output in cc);
       })
 
-  pub unbound-in : (value : T) (failure : Failure) (result : Result Status Failure) → addresses ≡ Ok value
-      → result ≡ Err failure → IsUnbound file failure
-      → RelayedIn file contents has_failed controlled common course before result before
-  unbound-in value failure result was is unbound =
-      let behind = unbound-behind file failure unbound in
-      subst (λ (r : Result Status Failure). Comes r before) (sym is) (record {
+  -- what fails comes after the addresses
+  pub fails-as : (value : T) (after : W) (failure : Failure) (result : Result Status Failure) → addresses ≡ Ok value
+      → result ≡ Err failure → IsAfterAddresses failure → HasNone failure ⊎ Fails failure ⊎ Ends failure
+      → (failure ≢ failures.Output → after ≡ before) → (failure ≡ failures.Output → has_failed after ≡ true)
+      → RelayedAs Comes HasNone Fails Ends contents has_failed controlled common before result after
+  fails-as value after failure result was is behind which silent broken =
+      subst (λ (r : Result Status Failure). Is r after) (sym is) (record {
         printed = tt;
         address = no-address {U = Status} (AddressFaultHolds controlled common) address_faults addresses value
             (Err failure) was behind exactly;
         usage = λ usage. absurd (behind-no-usage failure behind usage);
-        ended = inr (inl unbound);
+        ended = inr which;
         names = behind-of-relay failure behind;
-        silent = λ other. refl;
-        broken = λ output. absurd (unbound-no-output file failure unbound output);
+        silent = silent;
+        broken = broken;
       })
 
-  none-relayed-in : (value : T) (after : W) (failure : Failure) → addresses ≡ Ok value → OpeningFails file failure
-      → after ≡ before
-      → Comes (Err failure) after
-  none-relayed-in value after failure was fails silent =
-      let behind = disk-behind file failure fails in
-      record {
-        printed = tt;
-        address = no-address {U = Status} (AddressFaultHolds controlled common) address_faults addresses value
-            (Err failure) was behind exactly;
-        usage = λ usage. absurd (behind-no-usage failure behind usage);
-        ended = inr (inr (inl fails));
-        names = behind-of-relay failure behind;
-        silent = λ other. silent;
-        broken = λ output. absurd (disk-no-output failure (of-opening file failure fails) output);
-      }
+  -- it ends, and its summary is printed
+  pub comes-as : (value : T) (after : W) (status : Status) → addresses ≡ Ok value → SpellsBoth controlled common
+      → ((summary : RelaySummary) × Comes summary × Appends (contents before) (contents after) (relay_line summary)
+      × (status ≡ ends.Done))
+      → RelayedAs Comes HasNone Fails Ends contents has_failed controlled common before (Ok status) after
+  comes-as value after status was spelled (summary, comes, printed, is) = record {
+    printed = (summary, comes, spelled, printed, is);
+    address = no-address {U = Status} (AddressFaultHolds controlled common) address_faults addresses value (Ok status)
+        was tt exactly;
+    usage = tt;
+    ended = tt;
+    names = tt;
+    silent = tt;
+    broken = tt;
+  }
 
-  pub relayed-in : (value : T) (after : W) (result : Result Status Failure) → addresses ≡ Ok value
-      → SpellsBoth controlled common
+-- ---- over a disk in a file
+
+abbrev pub RelayedIn : {F W : Type 0} → (F → FileState) → (W → Option (List ℕ)) → (W → Bool) → WireEnds → WireEnds
+    → Course → W → Result Status Failure → W → Type 0
+RelayedIn file contents has_failed controlled common course before result after =
+    RelayedAs (ComesTo file course) (IsUnbound file) (OpeningFails file) (RelayEndsIn file course) contents has_failed
+    controlled common before result after
+
+module _ {F W T : Type 0} (file : F → FileState) (contents : W → Option (List ℕ)) (has_failed : W → Bool)
+    (controlled common : WireEnds) (course : Course)
+    (before : W) (addresses : Result T AddressFault)
+    (exactly : (fault : AddressFault)
+    → (addresses ≡ Err fault) ↔ IsFirst (AddressFaultHolds controlled common) address_faults fault)
+    (value : T) (was : addresses ≡ Ok value) where
+  fails-in : (after : W) (failure : Failure) (result : Result Status Failure) → result ≡ Err failure
+      → IsAfterAddresses failure → IsUnbound file failure ⊎ OpeningFails file failure ⊎ RelayEndsIn file course failure
+      → (failure ≢ failures.Output → after ≡ before) → (failure ≡ failures.Output → has_failed after ≡ true)
+      → RelayedIn file contents has_failed controlled common course before result after
+  fails-in after failure result =
+      fails-as (ComesTo file course) (IsUnbound file) (OpeningFails file) (RelayEndsIn file course) contents has_failed
+      controlled common before addresses exactly value after failure result was
+
+  pub unbound-in : (failure : Failure) → IsUnbound file failure
+      → RelayedIn file contents has_failed controlled common course before (Err failure) before
+  unbound-in failure unbound =
+      fails-in before failure (Err failure) refl (unbound-behind file failure unbound) (inl unbound) (λ other. refl)
+      (λ output. absurd (unbound-no-output file failure unbound output))
+
+  pub relayed-in : (after : W) (result : Result Status Failure) → SpellsBoth controlled common
       → IsRunIn file (DoesRelay (disk_in_file file) contents has_failed course) before result after
       → RelayedIn file contents has_failed controlled common course before result after
-  relayed-in value after result was spelled (inl none) =
-      subst (λ (r : Result Status Failure). Comes r after) (sym none.is)
-      (none-relayed-in value after none.failure was none.fails none.silent)
-  relayed-in value after (Ok status) was spelled (inr run) =
+  relayed-in after result spelled (inl none) =
+      fails-in after none.failure result none.is (disk-behind file none.failure none.fails) (inr (inl none.fails))
+      (λ other. none.silent)
+      (λ output. absurd (disk-no-output none.failure (of-opening file none.failure none.fails) output))
+  relayed-in after (Ok status) spelled (inr run) =
       let (summary, relays, printed, is) = run.does.printed in
-      record {
-        printed = (
-          summary,
-          record {
-            old = run.old;
-            new = run.new;
-            controlled = relays.controlled;
-            common = relays.common;
-            endpoint = run.endpoint;
-            relayed = relays.relayed;
-          },
-          spelled,
-          printed,
-          is,
-        );
-        address = no-address {U = Status} (AddressFaultHolds controlled common) address_faults addresses value
-            (Ok status) was tt exactly;
-        usage = tt;
-        ended = tt;
-        names = tt;
-        silent = tt;
-        broken = tt;
-      }
-  relayed-in value after (Err failure) was spelled (inr run) = record {
-    printed = tt;
-    address = no-address {U = Status} (AddressFaultHolds controlled common) address_faults addresses value (Err failure)
-        was run.does.failed exactly;
-    usage = λ usage. absurd (behind-no-usage failure run.does.failed usage);
-    ended = inr (inr (inr (record {
-      old = run.old;
-      new = run.new;
-      endpoint = run.endpoint;
-      ends = run.does.ended;
-    })));
-    names = behind-of-relay failure run.does.failed;
-    silent = run.does.silent;
-    broken = run.does.broken;
-  }
+      comes-as (ComesTo file course) (IsUnbound file) (OpeningFails file) (RelayEndsIn file course) contents has_failed
+      controlled common before addresses exactly value after status was spelled (
+        summary,
+        record {
+          old = run.old;
+          new = run.new;
+          controlled = relays.controlled;
+          common = relays.common;
+          endpoint = run.endpoint;
+          relayed = relays.relayed;
+        },
+        printed,
+        is,
+      )
+  relayed-in after (Err failure) spelled (inr run) =
+      fails-in after failure (Err failure) refl run.does.failed
+      (inr (inr (record { old = run.old; new = run.new; endpoint = run.endpoint; ends = run.does.ended })))
+      run.does.silent run.does.broken
+
+-- ---- over the disk of a keeper
+
+abbrev pub RelayedKept : {W : Type 0} → (W → Option (List ℕ)) → (W → Bool) → WireEnds → WireEnds → Course → W
+    → Result Status Failure → W → Type 0
+RelayedKept contents has_failed controlled common course before result after =
+    RelayedAs (ComesToKept course) HasNoWires KeepingFails (RelayEndsKept course) contents has_failed controlled common
+    before result after
+
+of-journal-behind : (failure : Failure) (fault : JournalFault) → failure ≡ failure_of_journal fault
+    → IsAfterAddresses failure
+of-journal-behind failure fault is = subst IsAfterAddresses (sym is) tt
+
+of-journal-no-output : (failure : Failure) (fault : JournalFault) → failure ≡ failure_of_journal fault
+    → failure ≢ failures.Output
+of-journal-no-output failure fault is output = let e = sym is ∙ output in cc
+
+module _ {W T : Type 0} (contents : W → Option (List ℕ)) (has_failed : W → Bool)
+    (controlled common : WireEnds) (course : Course)
+    (before : W) (addresses : Result T AddressFault)
+    (exactly : (fault : AddressFault)
+    → (addresses ≡ Err fault) ↔ IsFirst (AddressFaultHolds controlled common) address_faults fault)
+    (value : T) (was : addresses ≡ Ok value) where
+  fails-kept : (after : W) (failure : Failure) (result : Result Status Failure) → result ≡ Err failure
+      → IsAfterAddresses failure → HasNoWires failure ⊎ KeepingFails failure ⊎ RelayEndsKept course failure
+      → (failure ≢ failures.Output → after ≡ before) → (failure ≡ failures.Output → has_failed after ≡ true)
+      → RelayedKept contents has_failed controlled common course before result after
+  fails-kept after failure result =
+      fails-as (ComesToKept course) HasNoWires KeepingFails (RelayEndsKept course) contents has_failed
+      controlled common before addresses exactly value after failure result was
+
+  pub no-wires-kept : (fault failure : Failure) (result : Result Status Failure) → result ≡ Err failure
+      → failure ≡ fault → HasNoWires fault
+      → RelayedKept contents has_failed controlled common course before result before
+  no-wires-kept fault failure result is same none =
+      let here = subst HasNoWires (sym same) none in
+      fails-kept before failure result is
+      (elim here [
+        | inl memory ↦ subst IsAfterAddresses (sym memory) tt
+        | inr wire ↦ subst IsAfterAddresses (sym wire) tt
+      ])
+      (inl here) (λ other. refl)
+      (λ output. absurd (elim here [
+        | inl memory ↦ let e = sym memory ∙ output in cc
+        | inr wire ↦ let e = sym wire ∙ output in cc
+      ]))
+
+  pub no-keeper-kept : (fault failure : Failure) (result : Result Status Failure) → result ≡ Err failure
+      → failure ≡ fault → fault ≡ failure_of_journal journal.Disk
+      → RelayedKept contents has_failed controlled common course before result before
+  no-keeper-kept fault failure result is same named =
+      fails-kept before failure result is (of-journal-behind failure journal.Disk (same ∙ named))
+      (inr (inl (inl (same ∙ named)))) (λ other. refl)
+      (λ output. absurd (of-journal-no-output failure journal.Disk (same ∙ named) output))
+
+  pub relayed-kept : (disk : KeptDiskValue) (after : W) (result : Result Status Failure) → SpellsBoth controlled common
+      → IsRunOn kept_disk (DoesRelay kept_disk contents has_failed course) disk before result after
+      → RelayedKept contents has_failed controlled common course before result after
+  relayed-kept disk after result spelled (inl none) =
+      let failure = failure_of_journal none.fault in
+      fails-kept after failure result none.is (of-journal-behind failure none.fault refl)
+      (inr (inl (inr (record {
+        disk = disk;
+        left = none.left;
+        fault = none.fault;
+        refuses = none.refuses;
+        is = refl;
+      }))))
+      (λ other. none.silent) (λ output. absurd (of-journal-no-output failure none.fault refl output))
+  relayed-kept disk after (Ok status) spelled (inr run) =
+      let (summary, relays, printed, is) = run.does.printed in
+      comes-as (ComesToKept course) HasNoWires KeepingFails (RelayEndsKept course) contents has_failed
+      controlled common before addresses exactly value after status was spelled (
+        summary,
+        record {
+          old = run.old;
+          new = run.new;
+          controlled = relays.controlled;
+          common = relays.common;
+          endpoint = record { disk = disk; opens = run.opens };
+          relayed = relays.relayed;
+        },
+        printed,
+        is,
+      )
+  relayed-kept disk after (Err failure) spelled (inr run) =
+      fails-kept after failure (Err failure) refl run.does.failed
+      (inr (inr (record {
+        old = run.old;
+        new = run.new;
+        endpoint = record { disk = disk; opens = run.opens };
+        ends = run.does.ended;
+      })))
+      run.does.silent run.does.broken

@@ -11,7 +11,7 @@ use Rattle.macs_control.specs.Unanswered.{entries_of}
 use Rattle.macs_control.specs.declared.control_socket.ControlSocket.{ControlSocket}
 use Rattle.macs_control.specs.declared.desk.control_desk.ControlDesk.{ControlDesk}
 use Rattle.macs_control.specs.declared.metrics_file.MetricsPlace.{MetricsPlace}
-use Rattle.macs_control.specs.declared.watch.Wires.{Wires}
+use Rattle.macs_control.specs.declared.watch.Sockets.{Sockets}
 use Rattle.macs_edge.specs.declared.attending.DeskEvent.{DeskEvent}
 use Rattle.macs_cli.specs.declared.words.pace.Pace.{Pace}
 use Rattle.macs_cli.specs.declared.words.pace.Pace.TheVariants.{Sleepless, Waiting}
@@ -38,7 +38,7 @@ sleep_of (Waiting limit turns) = limit.0
 
 -- The desk of a relay of the disk file with this name, as the words request it, for these sockets of its wires: no call
 -- of it has been made, no command is unanswered, and its program is this one
-pub record IsNewDesk {T : Type 0} (disk : List ℕ) (running : Running) (sockets : Wires) (desk : SystemDesk T)
+pub record IsNewDesk {T : Type 0} (disk : List ℕ) (running : Running) (sockets : Sockets) (desk : SystemDesk T)
     : Type 0 where
   pub program : IsThisBuild desk.program.build
   pub clients : IsUnused (is_some running.control) sockets (sleep_of running.pace) desk.clients
@@ -52,7 +52,7 @@ pub record IsNewDesk {T : Type 0} (disk : List ℕ) (running : Running) (sockets
 -- over a whole relay, in which these events came to it, the result of each command that one of its clients gave was
 -- sent to this client, once, in the order of tickets
 pub record ServesOver (T : Type 0) (disk : List ℕ) (running : Running) (events : List DeskEvent) : Type 0 where
-  pub sockets : Wires
+  pub sockets : Sockets
   pub before : SystemDesk T
   pub after : SystemDesk T
   pub is_new : IsNewDesk disk running sockets before

@@ -8,6 +8,8 @@ pub mod Judging
 pub mod Attendants
 pub mod Relaying
 pub mod Tasks
+pub mod KeptRelays
+pub mod Keeping
 pub mod Asking
 pub mod About
 pub mod Overruns

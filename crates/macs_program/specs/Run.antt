@@ -28,8 +28,10 @@ use Rattle.macs_offline.specs.Keys.{GivesKey, IsOfKey}
 use Rattle.macs_offline.specs.Plans.{PlanFails, PrintsPlan}
 use Rattle.macs_cli.specs.Help.{topic_text}
 use Rattle.macs_program.specs.Inputs.{InputRead, read_of}
+use Rattle.macs_program.specs.Keeping.{FailsToKeep, KeepsIn}
 use Rattle.macs_program.specs.NewDisks.{FormatFails, Formats}
-use Rattle.macs_program.specs.Relaying.{ComesTo, IsUnbound, RelayEndsIn, course_of}
+use Rattle.macs_program.specs.KeptRelays.{ComesToBy, RelayFailsBy}
+use Rattle.macs_program.specs.Relaying.{course_of}
 use Rattle.macs_cli.specs.OpenInput.{InputFaultHolds, input_faults}
 use Rattle.macs_texts.specs.Lines.{line}
 use Rattle.macs_program.specs.Summing.{pass_status, relay_line, summary_line}
@@ -37,7 +39,7 @@ use Rattle.macs_cli.specs.Values.{SpellsIdentity, SpellsLayout, ValueFaultHolds,
 use Rattle.macs_cli.specs.Words.{AreRefused, AsksFor, AsksForNothing, Names, macsecd}
 use Rattle.macs_cli.specs.declared.words.action.Action.{Action}
 use Rattle.macs_cli.specs.declared.words.action.Action.TheVariants.{Open, OnDisk, OnFrames, Tool}
-use Rattle.macs_cli.specs.declared.words.action.DiskAction.TheVariants.{Format, Apply, Show}
+use Rattle.macs_cli.specs.declared.words.action.DiskAction.TheVariants.{Format, Apply, Show, Keep}
 use Rattle.macs_cli.specs.declared.words.action.FrameAction.TheVariants.{Protect, Validate, Relay}
 use Rattle.macs_cli.specs.declared.words.action.ToolAction.TheVariants.{Ask, Key, Inspect, Check, Plan, Examine, About}
 use Rattle.macs_cli.specs.declared.addresses.AddressFault.{AddressFault}
@@ -74,6 +76,8 @@ Does T state_of left_in (OnDisk (Apply disk file)) input before after status =
     AppliesIn state_of left_in before after status
 Does T state_of left_in (OnDisk (Show disk)) input before after status = ShowsIn state_of before after
     × (status ≡ ends.Done)
+Does T state_of left_in (OnDisk (Keep disk socket)) input before after status =
+    KeepsIn state_of status × (after ≡ before)
 Does T state_of left_in (OnFrames (Protect disk from to is_all)) input before after status =
     (summary : Summary) × PassesIn state_of Controlled summary
     × Appends before after (summary_line Controlled summary) × (status ≡ pass_status is_all summary)
@@ -85,7 +89,8 @@ Does T state_of left_in (OnFrames (Validate disk from to is_all true)) input bef
     × Appends before after (verdict_lines 1 verdicts ++ summary_line Common summary)
     × (status ≡ pass_status is_all summary)
 Does T state_of left_in (OnFrames (Relay disk controlled common running)) input before after status =
-    (summary : RelaySummary) × ComesTo state_of (course_of T disk.now running) summary × SpellsBoth controlled common
+    (summary : RelaySummary) × ComesToBy state_of running.keeper (course_of T disk.now running) summary
+    × SpellsBoth controlled common
     × Appends before after (relay_line summary) × (status ≡ ends.Done)
 Does T state_of left_in (Tool (Ask path asked is_json)) input before after status =
     PrintsAnswer asked is_json before after status
@@ -153,6 +158,7 @@ FailsAs T state_of left_in (OnDisk (Apply disk file)) octets before after failur
 FailsAs T state_of left_in (OnDisk (Show disk)) octets before after failure = OpeningFails state_of failure
     ⊎ (failure ≡ Memory)
     ⊎ (failure ≡ Output)
+FailsAs T state_of left_in (OnDisk (Keep disk socket)) octets before after failure = FailsToKeep state_of failure
 FailsAs T state_of left_in (OnFrames (Protect disk from to is_all)) octets before after failure =
     OpeningFails state_of failure
     ⊎ PassEndsIn state_of Controlled failure
@@ -165,8 +171,7 @@ FailsAs T state_of left_in (OnFrames (Validate disk from to is_all true)) octets
 FailsAs T state_of left_in (OnFrames (Relay disk controlled common running)) octets before after failure =
     ((fault : AddressFault) × (failure ≡ Address fault)
     × IsFirst (AddressFaultHolds controlled common) address_faults fault)
-    ⊎ IsUnbound state_of failure ⊎ OpeningFails state_of failure
-    ⊎ RelayEndsIn state_of (course_of T disk.now running) failure
+    ⊎ RelayFailsBy state_of running.keeper (course_of T disk.now running) failure
 FailsAs T state_of left_in (Tool (Ask path asked is_json)) octets before after failure = AskFails path.now asked failure
 FailsAs T state_of left_in (Tool (Key is_long)) octets before after failure = IsOfKey failure
 FailsAs T state_of left_in (Tool (Inspect from)) octets before after failure =

@@ -7,11 +7,13 @@ use Rattle.macs_disk.specs.declared.file.FileDisk.{FileDisk}
 use Rattle.macs_edge.specs.declared.capture_runs.Summary.{Summary}
 use Rattle.macs_edge.specs.declared.relaying.RelaySummary.{RelaySummary}
 use Rattle.macs_edge.specs.declared.settling.Side.{Side}
+use Rattle.macs_endpoint.specs.Opening.{Opens, RefusesOpening}
 use Rattle.macs_endpoint.specs.Value.{EndpointValue}
+use Rattle.macs_journal.specs.declared.fault.JournalFault.{JournalFault}
 use Rattle.macs_program.specs.Endpoints.{AppliesFile, BreaksOff, PassEnds, PassesBetween}
 use Rattle.macs_offline.specs.Openings.{IsEndpointIn, OpeningFails}
 use Rattle.macs_program.specs.Endpoints.{shown_text}
-use Rattle.macs_cli.specs.Failing.{failure_status}
+use Rattle.macs_cli.specs.Failing.{failure_of_journal, failure_status}
 use Rattle.macs_program.specs.Relaying.{Course, IsAfterAddresses, RelayEnds, Relays}
 use Rattle.macs_program.specs.Summing.{pass_status, relay_line, summary_line}
 use Rattle.macs_cli.specs.declared.failure.Failure.{Failure}
@@ -22,6 +24,30 @@ use Rattle.macs_cli.specs.declared.status.Status.TheVariants as ends
 -- what is done with an endpoint and a stream: both before, the answer, both after
 abbrev pub Doing : Type 0 → Type 0 → Type 1
 Doing D W = EndpointValue D → W → Result Status Failure → EndpointValue D → W → Type 0
+
+-- ---- on a disk
+
+-- the disk is refused, which is the failure, and nothing is printed
+pub record IsRefusedOn {D W : Type 0} (disk_of : D → Disk) (disk : D) (before : W) (result : Result Status Failure)
+    (after : W) : Type 0 where
+  pub left : D
+  pub fault : JournalFault
+  pub refuses : RefusesOpening disk_of disk left fault
+  pub is : result ≡ Err (failure_of_journal fault)
+  pub silent : after ≡ before
+
+-- an endpoint is opened there, and this is done with it
+pub record IsDoneOn {D W : Type 0} (disk_of : D → Disk) (done : Doing D W) (disk : D) (before : W)
+    (result : Result Status Failure) (after : W) : Type 0 where
+  pub old : EndpointValue D
+  pub new : EndpointValue D
+  pub opens : Opens disk_of disk old
+  pub does : done old before result new after
+
+-- either of the two
+abbrev pub IsRunOn : {D W : Type 0} → (D → Disk) → Doing D W → D → W → Result Status Failure → W → Type 0
+IsRunOn disk_of done disk before result after =
+    IsRefusedOn disk_of disk before result after ⊎ IsDoneOn disk_of done disk before result after
 
 -- ---- on a disk in a file
 

@@ -11,7 +11,7 @@ use crate::pacing::sleep_of;
 use crate::relay_system::RelaySystem;
 use macs_cli::{Failure, Running};
 use macs_control::desk::{ControlDesk, report_paper};
-use macs_control::{ControlSocket, MetricsPlace, Wires, remove_name};
+use macs_control::{ControlSocket, MetricsPlace, Sockets, remove_name};
 use macs_offline::KeyList;
 use std::alloc::Global;
 use std::net::Net;
@@ -30,7 +30,7 @@ fn clients_for<'a, T: Files + Net + Clock>(
     rt: &'a T,
     alloc: Global,
     running: &Running<'a>,
-    wires: Wires,
+    wires: Sockets,
 ) -> Result<ControlSocket<'a, T>, Failure>
     ensures unused { IfOk result
         (IsUnused (is_some running.now.control) wires (sleep_of running.now.pace)) }
@@ -50,7 +50,7 @@ fn desk_over<'a, T: Files + Net + Clock>(
     alloc: Global,
     disk: &'a str,
     running: &Running<'a>,
-    wires: Wires,
+    wires: Sockets,
     metrics: MetricsPlace<'a, T>,
 ) -> Result<SystemDesk<'a, T>, Failure>
     requires { IsPlaceAt running.now.metrics metrics }
@@ -99,7 +99,7 @@ pub fn desk_for<'a, T: Files + Net + Clock>(
     alloc: Global,
     disk: &'a str,
     running: &Running<'a>,
-    wires: Wires,
+    wires: Sockets,
 ) -> Result<SystemDesk<'a, T>, Failure>
     ensures new { IfOk result (IsNewDesk disk.now running.now wires) }
     ensures failed { IfErr result

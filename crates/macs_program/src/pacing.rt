@@ -5,7 +5,7 @@ ghost use Rattle.macs_program.specs.Attendants.{sleep_of};
 ghost use Rattle.macs_program.specs.Relaying.{is_planned, left_out, limit_of, turns_of};
 
 use macs_cli::{Milliseconds, Pace};
-use macs_control::Wires as Sockets;
+use macs_control::Sockets;
 use macs_edge::Idle;
 
 /// How many turns a relay takes: if it waits and no number is given, more than it can take in a

@@ -14,18 +14,20 @@ ghost use Rattle.macs_cli.specs.Failing.{failure_status};
 ghost use Rattle.macs_offline.specs.Openings.{OpeningFails};
 ghost use Rattle.macs_offline.specs.Trying.{LookFails, TriesIn};
 ghost use Rattle.macs_cli.specs.declared.addresses.AddressFault.{AddressFault};
+ghost use Rattle.macs_program.specs.KeptRelays.{ComesToBy, RelayFailsBy};
 ghost use Rattle.macs_program.specs.Relaying.{ComesTo, IsOfRelay, IsUnbound, RelayEndsIn};
 ghost use Rattle.macs_program.specs.Relaying.{RelaysAttended, course_of, is_attended, new_wire};
 ghost use Rattle.macs_program.specs.Summing.{relay_line};
 ghost use Rattle.macs_program.specs.Tasks.{DoesRelay};
 
 use crate::attendants::{desk_for, leave};
+use crate::kept_relay::relay_kept;
 use crate::pacing::{Rest, limit_of};
 use crate::task::{Task, with_file};
 use crate::wires::{Wires, bind_wires};
 use macs_cli::{CaptureFile, Failure, Pace, Running, Status, Stream, WireEnds, addresses_of};
 use macs_commands::requests::{Clients, Metrics};
-use macs_control::Notifier;
+use macs_control::{NO_SOCKET, Notifier};
 use macs_control::desk::laws::clients_are_served;
 use macs_control::desk::{ControlDesk, KeyNotes, Overruns, Time};
 use macs_disk::SectorDisk;
@@ -34,6 +36,7 @@ use macs_endpoint::Endpoint;
 use macs_offline::look_at;
 use std::alloc::Global;
 use std::net::{Net, UdpSocket};
+use std::os::fd::RawFd;
 use std::rt::{Clock, Env, Files};
 
 /// Whether a desk attends a relay.
@@ -68,12 +71,14 @@ fn serve<D: SectorDisk, C: Clients, M: Metrics, S: Overruns + KeyNotes + Time, W
 
 /// Relays frames through an endpoint between two wires, of which no call has been made yet.
 #[derive(Drop)]
-struct RelayWires<'a, T> {
-    rt: &'a T,
-    alloc: Global,
-    disk: &'a str,
-    wires: Wires,
-    running: Running<'a>,
+pub struct RelayWires<'a, T> {
+    pub rt: &'a T,
+    pub alloc: Global,
+    pub disk: &'a str,
+    pub wires: Wires,
+    /// The connection to the keeper of the disk, or `NO_SOCKET`.
+    pub keeper: RawFd,
+    pub running: Running<'a>,
     ghost new_controlled: { ⟦<UdpWire<Global, UdpSocket> as Wire>⟧.state wires.controlled
         ≡ new_wire },
     ghost new_common: { ⟦<UdpWire<Global, UdpSocket> as Wire>⟧.state wires.common ≡ new_wire },
@@ -101,9 +106,10 @@ impl<T: Files + Net + Clock + Env> RelayWires<'_, T> {
             alloc,
             disk,
             wires,
+            keeper,
             running,
         } = self;
-        let mut desk = desk_for(rt, alloc, disk, &running, wires.sockets())?;
+        let mut desk = desk_for(rt, alloc, disk, &running, wires.sockets(keeper))?;
         let notifier = Notifier::of_environment(rt, alloc);
         notifier.ready();
         let result = serve(wires, endpoint, &mut desk, running.pace, out);
@@ -122,9 +128,14 @@ impl<T: Files + Net + Clock + Env> RelayWires<'_, T> {
             (course_with T false self.entry.disk.now self.entry.running) endpoint.old out.old result
             endpoint.new out.new }
     {
-        let RelayWires { wires, running, .. } = self;
+        let RelayWires {
+            wires,
+            keeper,
+            running,
+            ..
+        } = self;
         let idle = Rest {
-            sockets: wires.sockets(),
+            sockets: wires.sockets(keeper),
             limit: limit_of(running.pace),
         };
         wires.relay(endpoint, &mut Unattended { idle }, running.pace, out)
@@ -162,8 +173,8 @@ where
     }
 }
 
-/// `relay`: relays frames between two wires, the first of which is the controlled side.
-pub fn relay<'a, T: Files + Net + Clock + Env, W: Stream>(
+/// Relays frames between two wires, through an endpoint on a disk in a file.
+fn relay_in_file<'a, T: Files + Net + Clock + Env, W: Stream>(
     rt: &'a T,
     alloc: Global,
     disk: &'a str,
@@ -203,10 +214,50 @@ where
                 alloc,
                 disk,
                 wires,
+                keeper: NO_SOCKET,
                 running,
             };
             with_file(rt, alloc, disk, task, out)
         }
         Err(failure) => Err(unbound(rt, alloc, disk, failure)),
+    }
+}
+
+/// `relay`: relays frames between two wires, the first of which is the controlled side. The disk is
+/// in the file named `disk`, or a keeper has that file, if one is named.
+pub fn relay<'a, T: Files + Net + Clock + Env, W: Stream>(
+    rt: &'a T,
+    alloc: Global,
+    disk: &'a str,
+    controlled: WireEnds,
+    common: WireEnds,
+    running: Running<'a>,
+    out: &mut W,
+) -> Result<Status, Failure>
+where
+    T::File: CaptureFile,
+    ensures printed { IfOk result
+        (λ status. (summary : RelaySummary)
+        × ComesToBy T.File.file running.entry.keeper (course_of T disk.now running.entry) summary
+        × SpellsBoth controlled.entry common.entry
+        × Appends (W.contents out.old) (W.contents out.new) (relay_line summary)
+        × (status ≡ Status.Done)) }
+    ensures address { (fault : AddressFault) → (result ≡ Err (Failure.Address fault))
+        ↔ IsFirst (AddressFaultHolds controlled.entry common.entry) address_faults fault }
+    ensures usage { IfErr result (λ failure. failure_status failure ≡ Status.Usage
+        → ((fault : AddressFault) × AddressFaultHolds controlled.entry common.entry fault)
+        × (out.new ≡ out.old)) }
+    ensures ended { IfErr result
+        (λ failure. ((fault : AddressFault) × (failure ≡ Failure.Address fault)
+        × IsFirst (AddressFaultHolds controlled.entry common.entry) address_faults fault)
+        ⊎ RelayFailsBy T.File.file running.entry.keeper (course_of T disk.now running.entry)
+        failure) }
+    ensures names { IfErr result IsOfRelay }
+    ensures silent { IfErr result (λ failure. failure ≢ Failure.Output → out.new ≡ out.old) }
+    ensures broken { IfErr result (λ failure. failure ≡ Failure.Output → W.failed out.new ≡ true) }
+{
+    match running.keeper {
+        None => relay_in_file(rt, alloc, disk, controlled, common, running, out),
+        Some(keeper) => relay_kept(rt, alloc, disk, keeper, controlled, common, running, out),
     }
 }

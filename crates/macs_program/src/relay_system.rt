@@ -3,7 +3,7 @@
 use crate::build::seconds_now;
 use crate::overruns::dropped_at;
 use macs_config::Command;
-use macs_control::Wires;
+use macs_control::Sockets;
 use macs_control::desk::{Dropped, KeyNotes, NoteFault, Overruns, Time};
 use macs_offline::{KeyFault, KeyList};
 use std::alloc::Global;
@@ -15,7 +15,7 @@ use std::slice;
 pub struct RelaySystem<'a, T> {
     pub rt: &'a T,
     pub alloc: Global,
-    pub wires: Wires,
+    pub wires: Sockets,
     pub keys: KeyList<'a, T>,
 }
 

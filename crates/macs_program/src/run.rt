@@ -24,6 +24,7 @@ use crate::capturing::pass;
 use crate::format::format;
 use crate::input::{Input, InputText};
 use crate::judging::judge;
+use crate::keep::keep;
 use crate::relay::relay;
 use crate::show::show;
 use macs_cli::{
@@ -108,8 +109,8 @@ where
     }
 }
 
-/// Carries out an action on an endpoint, without frames.
-fn perform_on_disk<T: Files, W: Stream>(
+/// Carries out an action on a disk file, without frames.
+fn perform_on_disk<T: Files + Net + Env, W: Stream>(
     rt: &T,
     alloc: Global,
     action: DiskAction,
@@ -134,6 +135,7 @@ where
         ),
         DiskAction::Apply { disk, file } => apply(rt, alloc, disk, file, out),
         DiskAction::Show { disk } => show(rt, alloc, disk, out),
+        DiskAction::Keep { disk, socket } => keep(rt, alloc, disk, socket),
     }
 }
 

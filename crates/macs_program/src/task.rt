@@ -7,8 +7,8 @@
 //! otherwise the compiler would reserve a second place for the endpoint on the stack.
 
 ghost use Rattle.std.specs.Prelude.{◌≡◌, []};
-ghost use Rattle.macs_offline.specs.Openings.{IsDiskIn, IsOpeningIn};
-ghost use Rattle.macs_program.specs.Tasks.{Doing, IsRunIn};
+ghost use Rattle.macs_endpoint.specs.Opening.{IsOpening};
+ghost use Rattle.macs_program.specs.Tasks.{Doing, IsRunIn, IsRunOn};
 
 use macs_cli::{Failure, Status, Stream};
 use macs_disk::{DiskFile, FileDisk, SectorDisk};
@@ -47,26 +47,26 @@ where
 
 /// Runs a task with the endpoint on a disk.
 #[inline(never)]
-fn with_disk<F: DiskFile, K: Task<FileDisk<F>, W>, W: Stream>(
-    disk: FileDisk<F>,
+pub fn with_disk<D: SectorDisk, K: Task<D, W>, W: Stream>(
+    disk: D,
     task: K,
     out: &mut W,
 ) -> Result<Status, Failure>
-    requires { IsDiskIn F.file disk }
-    ensures { IsRunIn F.file (K.does task) out.old result out.new }
+    ensures { IsRunOn D.disk (K.does task) disk out.old result out.new }
 {
     with_opened(Endpoint::open(disk), task, out)
 }
 
 /// Runs a task with an endpoint, if it was opened.
 #[inline(never)]
-fn with_opened<F: DiskFile, K: Task<FileDisk<F>, W>, W: Stream>(
-    mut opened: Result<Endpoint<FileDisk<F>>, OpenRefused<FileDisk<F>>>,
+fn with_opened<D: SectorDisk, K: Task<D, W>, W: Stream>(
+    mut opened: Result<Endpoint<D>, OpenRefused<D>>,
     task: K,
     out: &mut W,
 ) -> Result<Status, Failure>
-    requires { IsOpeningIn F.file opened }
-    ensures { IsRunIn F.file (K.does task) out.old result out.new }
+    requires { (disk : _) × IsOpening D.disk disk opened }
+    ensures { (disk : _) → IsOpening D.disk disk opened.entry
+        → IsRunOn D.disk (K.does task) disk out.old result out.new }
 {
     match &mut opened {
         Ok(endpoint) => task.run(endpoint, out),

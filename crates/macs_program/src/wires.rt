@@ -10,13 +10,13 @@ ghost use Rattle.macs_program.specs.Relaying.{IsSparedAt, RelaysAttended, Spares
 use crate::pacing::left_out;
 use crate::relaying::relay_frames;
 use macs_cli::{Addresses, Failure, Pace, Status, Stream, WireAddresses};
-use macs_control::{Wires as Sockets, ask_for_buffer};
+use macs_control::{Sockets, ask_for_buffer};
 use macs_disk::SectorDisk;
 use macs_edge::{Desk, SparedSocket, UdpWire, Wire};
 use macs_endpoint::Endpoint;
 use std::alloc::Global;
 use std::net::{Net, UdpSocket};
-use std::os::fd::AsRawFd;
+use std::os::fd::{AsRawFd, RawFd};
 
 /// The wires of a relay.
 #[derive(Drop)]
@@ -118,17 +118,22 @@ impl Wires {
     ghost use Rattle.macs_edge.specs.Wires.{WireState};
     ghost use Rattle.macs_program.specs.Relaying.{RelaysAttended, new_wire};
 
-    /// Their sockets.
-    pub fn sockets(&self) -> Sockets
+    /// Their sockets, and the connection to a keeper.
+    pub fn sockets(&self, keeper: RawFd) -> Sockets
         ensures controlled { IfSome
             (⟦<UdpWire<Global, UdpSocket> as AsRawFd>⟧.raw_fd self.now.controlled)
             (λ socket. result.controlled ≡ socket) }
         ensures common { IfSome (⟦<UdpWire<Global, UdpSocket> as AsRawFd>⟧.raw_fd self.now.common)
             (λ socket. result.common ≡ socket) }
+        ensures keeper { result.keeper ≡ keeper }
     {
         let controlled = self.controlled.as_raw_fd();
         let common = self.common.as_raw_fd();
-        Sockets { controlled, common }
+        Sockets {
+            controlled,
+            common,
+            keeper,
+        }
     }
 
     /// Relays frames between them at this pace, attended by a desk; after a planned end the endpoint

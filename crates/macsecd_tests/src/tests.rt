@@ -14,6 +14,7 @@ mod examining;
 mod failing;
 mod inspecting;
 mod judging;
+mod keeping;
 mod link;
 mod link_files;
 mod older_files;
@@ -27,6 +28,7 @@ mod spaced_files;
 mod stand_in;
 mod stories;
 mod trying;
+mod visitors;
 mod waiting;
 mod wires;
 

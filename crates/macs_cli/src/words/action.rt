@@ -9,7 +9,7 @@ use std::alloc::AllocError;
 pub enum Action<'a> {
     /// Opens one protected frame: `open`, or no words.
     Open,
-    /// Works on an endpoint, and gives it no frames.
+    /// Works on a disk file, and gives no frames to an endpoint.
     OnDisk(DiskAction<'a>),
     /// Gives frames to an endpoint.
     OnFrames(FrameAction<'a>),
@@ -17,7 +17,7 @@ pub enum Action<'a> {
     Tool(ToolAction<'a>),
 }
 
-/// An action on an endpoint, without frames.
+/// An action on a disk file, without frames.
 #[derive(Clone, Copy)]
 pub enum DiskAction<'a> {
     /// Makes a disk file for an endpoint: `format DISK SCI TX RX`, optionally with `--block` and
@@ -40,6 +40,12 @@ pub enum DiskAction<'a> {
     /// Prints the configuration and the packet numbers: `show DISK`.
     Show {
         disk: &'a str,
+    },
+    /// Keeps a disk for a relay, which is the one client of a socket: `keep DISK SOCKET`.
+    Keep {
+        disk: &'a str,
+        /// The name of the socket.
+        socket: &'a str,
     },
 }
 
@@ -66,9 +72,10 @@ pub enum FrameAction<'a> {
         is_each: bool,
     },
     /// Relays frames between two wires: `relay DISK OWN1 PEER1 OWN2 PEER2` with `--turns n`,
-    /// `--wait MS` or both, and optionally with `--control PATH`, `--metrics FILE` and
-    /// `--buffer OCTETS`.
+    /// `--wait MS` or both, and optionally with `--control PATH`, `--metrics FILE`,
+    /// `--buffer OCTETS` and `--keeper SOCKET`.
     Relay {
+        /// The disk file. With a keeper it is not opened: the list of keys is beside it.
         disk: &'a str,
         controlled: WireEnds<'a>,
         common: WireEnds<'a>,

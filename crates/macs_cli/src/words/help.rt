@@ -4,8 +4,8 @@ ghost use Rattle.std.specs.Prelude.{◌≡◌, ◌↔◌, IsTrue, Some};
 ghost use Rattle.macs_cli.specs.Words.{AsksFor, IsHelpFlag, IsVersionFlag, name_of, texts};
 
 use crate::words::help_texts::{
-    ABOUT, APPLY, ASK, CHECK, EXAMINE, FORMAT, HELP, INSPECT, KEY, OPEN, PLAN, PROTECT, RELAY,
-    SHOW, VALIDATE, VERSION,
+    ABOUT, APPLY, ASK, CHECK, EXAMINE, FORMAT, HELP, INSPECT, KEEP, KEY, OPEN, PLAN, PROTECT,
+    RELAY, SHOW, VALIDATE, VERSION,
 };
 
 /// A subcommand.
@@ -18,6 +18,7 @@ pub enum Subcommand {
     Protect,
     Validate,
     Relay,
+    Keep,
     Ask,
     Key,
     Inspect,
@@ -55,6 +56,7 @@ impl Subcommand {
             "protect" => Some(Subcommand::Protect),
             "validate" => Some(Subcommand::Validate),
             "relay" => Some(Subcommand::Relay),
+            "keep" => Some(Subcommand::Keep),
             "ask" => Some(Subcommand::Ask),
             "key" => Some(Subcommand::Key),
             "inspect" => Some(Subcommand::Inspect),
@@ -78,6 +80,7 @@ impl Subcommand {
             Subcommand::Protect => PROTECT,
             Subcommand::Validate => VALIDATE,
             Subcommand::Relay => RELAY,
+            Subcommand::Keep => KEEP,
             Subcommand::Ask => ASK,
             Subcommand::Key => KEY,
             Subcommand::Inspect => INSPECT,

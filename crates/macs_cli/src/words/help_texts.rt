@@ -10,6 +10,7 @@ pub const HELP: &str = "usage: macsecd [SUBCOMMAND VALUES..]
   validate DISK INPUT OUTPUT   validates the frames of a capture
   relay DISK OWN1 PEER1 OWN2 PEER2 --turns n
                                relays frames between two wires of UDP
+  keep DISK SOCKET             keeps the disk of a relay in a process of its own
   ask PATH show|counters|keys|traffic|about|stop|apply FILE
                                asks a running relay over its control socket
   key                          prints a fresh key
@@ -128,7 +129,7 @@ status: 0 done, 2 usage, 3 a frame discarded, 4 disk, 5 capture, output or memor
 
 pub const RELAY: &str = "usage: macsecd relay DISK OWN1 PEER1 OWN2 PEER2 --turns n
        macsecd relay DISK OWN1 PEER1 OWN2 PEER2 --wait MS [--turns n]
-  and [--control PATH] [--metrics FILE] [--buffer OCTETS]
+  and [--control PATH] [--metrics FILE] [--buffer OCTETS] [--keeper SOCKET]
 
 Relays frames between two wires of UDP: a datagram is one Ethernet frame without
 FCS. Frames of the first wire, the controlled side, are protected and go to the
@@ -150,11 +151,30 @@ it prints 'sent 6 delivered 0 dropped 0 faults 0'.
                     this name and .new, is left alone, and refused
   --buffer OCTETS   how much the system is asked to keep for each wire of what
                     waits: 1 to 1073741823
+  --keeper SOCKET   the socket of a keeper that has the disk file: frames pass
+                    while the device syncs; see 'macsecd keep --help'
 Without --wait no turn waits for a frame: one processor is busy until the last.
 
 example: macsecd relay left.disk 127.0.0.1:4001 127.0.0.1:4000 \\
            127.0.0.1:5001 127.0.0.1:5002 --turns 10000000
 status: 0 done, 2 usage, 4 disk, 5 wire, control, output or memory
+";
+
+pub const KEEP: &str = "usage: macsecd keep DISK SOCKET
+
+Keeps a disk file for a relay: makes each read, write and sync of the file that
+the relay asks for over a local socket. So the relay, which runs with --keeper
+SOCKET, passes frames while the device is busy.
+  DISK     a disk file that was formatted; no other program can use it meanwhile
+  SOCKET   the name of the socket, which is made. Only the owner of the keeper
+           can connect to it
+One relay is served. Once it has connected the name is removed, and nobody else
+can connect. The keeper ends when its relay has ended, and prints nothing; the
+next relay needs a new keeper. A signal ends it at any moment. If the device
+fails, the relay reports it and ends, and so does the keeper.
+
+example: macsecd keep left.disk /run/macsecd/left/keeper
+status: 0 the relay has ended, 2 usage, 4 disk, 5 socket, request or memory
 ";
 
 pub const ASK: &str = "usage: macsecd ask PATH show [--json]

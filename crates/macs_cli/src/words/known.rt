@@ -57,8 +57,10 @@ const SUBCOMMANDS: &[(&str, &[(&str, Kind)])] = &[
             ("buffer", Kind::Room),
             ("control", Kind::Named),
             ("metrics", Kind::Named),
+            ("keeper", Kind::Named),
         ],
     ),
+    ("keep", &[("DISK", Kind::Value), ("SOCKET", Kind::Value)]),
     (
         "ask",
         &[

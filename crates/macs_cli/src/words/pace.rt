@@ -31,4 +31,6 @@ pub struct Running<'a> {
     pub control: Option<&'a str>,
     /// The file that the counters are written to, if there is one: `--metrics FILE`.
     pub metrics: Option<&'a str>,
+    /// The socket of the keeper that has the disk file, if there is one: `--keeper SOCKET`.
+    pub keeper: Option<&'a str>,
 }

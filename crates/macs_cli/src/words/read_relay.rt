@@ -2,8 +2,8 @@
 
 ghost use Rattle.std.specs.Prelude.{ℕ, Option, IfSome, IsSome, codes};
 ghost use Rattle.clap.specs.Words.{Text, found_of, rows_of};
-ghost use Rattle.macs_cli.specs.Words.{FitsOnFrames, FitsPace, HasPace, HasText, MayHaveRoom};
-ghost use Rattle.macs_cli.specs.Words.{MayHaveText, NamesOnFrames};
+ghost use Rattle.macs_cli.specs.Words.{FitsOnFrames, FitsPace, HasPace, HasText};
+ghost use Rattle.macs_cli.specs.Words.{MayHaveRoom, MayHaveText, NamesOnFrames};
 ghost use Rattle.macs_cli.specs.declared.words.pace.Pace.{Pace};
 
 use crate::words::action::{FrameAction, WireEnds};
@@ -48,7 +48,8 @@ fn running_in<'a>(values: &ArgMatches<'a>) -> Option<Running<'a>>
     ensures read { IfSome result (λ running. HasPace (rows_of (found_of values.now)) running.pace
         × MayHaveRoom (rows_of (found_of values.now)) (codes "buffer") running.buffer
         × MayHaveText (rows_of (found_of values.now)) (codes "control") running.control
-        × MayHaveText (rows_of (found_of values.now)) (codes "metrics") running.metrics) }
+        × MayHaveText (rows_of (found_of values.now)) (codes "metrics") running.metrics
+        × MayHaveText (rows_of (found_of values.now)) (codes "keeper") running.keeper) }
     ensures found { (pace : Pace) (room : Option ℕ) → HasPace (rows_of (found_of values.now)) pace
         → FitsPace pace → MayHaveRoom (rows_of (found_of values.now)) (codes "buffer") room
         → IsSome result }
@@ -60,6 +61,7 @@ fn running_in<'a>(values: &ArgMatches<'a>) -> Option<Running<'a>>
         buffer,
         control: text_in(values, "control"),
         metrics: text_in(values, "metrics"),
+        keeper: text_in(values, "keeper"),
     })
 }
 

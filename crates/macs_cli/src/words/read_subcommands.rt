@@ -55,6 +55,19 @@ pub fn show_in<'a>(values: &ArgMatches<'a>) -> Option<DiskAction<'a>>
     Some(DiskAction::Show { disk })
 }
 
+/// `keep` with its values.
+pub fn keep_in<'a>(values: &ArgMatches<'a>) -> Option<DiskAction<'a>>
+    ensures read { IfSome result
+        (NamesOnDisk (codes "keep", rows_of (found_of values.now))) }
+    ensures found { (action : DiskAction)
+        → NamesOnDisk (codes "keep", rows_of (found_of values.now)) action
+        → IsSome result }
+{
+    let disk = text_in(values, "DISK")?;
+    let socket = text_in(values, "SOCKET")?;
+    Some(DiskAction::Keep { disk, socket })
+}
+
 /// `protect` with its values.
 pub fn protect_in<'a>(values: &ArgMatches<'a>) -> Option<FrameAction<'a>>
     ensures read { IfSome result

@@ -10,11 +10,12 @@ use crate::words::read_ask::ask_in;
 use crate::words::read_plan::plan_in;
 use crate::words::read_relay::relay_in;
 use crate::words::read_subcommands::{
-    apply_in, check_in, examine_in, format_in, inspect_in, key_in, protect_in, show_in, validate_in,
+    apply_in, check_in, examine_in, format_in, inspect_in, keep_in, key_in, protect_in, show_in,
+    validate_in,
 };
 use clap::ArgMatches;
 
-/// The action of a subcommand that works on an endpoint without frames, with its values.
+/// The action of a subcommand that works on a disk file without frames, with its values.
 fn disk_action_in<'a>(name: &str, values: &ArgMatches<'a>) -> Option<DiskAction<'a>>
     ensures read { IfSome result (NamesOnDisk (name.now, rows_of (found_of values.now))) }
     ensures found { (action : DiskAction)
@@ -25,6 +26,7 @@ fn disk_action_in<'a>(name: &str, values: &ArgMatches<'a>) -> Option<DiskAction<
         "format" => format_in(values),
         "apply" => apply_in(values),
         "show" => show_in(values),
+        "keep" => keep_in(values),
         _ => None,
     }
 }

@@ -6,7 +6,7 @@ use std::io::{ErrorKind, Read, Write};
 use std::os::fd::AsRawFd;
 use std::os::unix::net::UnixStream;
 
-/// How long a client waits for its keeper, in milliseconds: longer than a call of a device that
+/// How long a client waits for its keeper, in milliseconds: longer than any call of a device that
 /// works takes.
 const PATIENCE: u16 = 60_000;
 

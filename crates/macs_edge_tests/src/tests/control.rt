@@ -2,7 +2,7 @@
 //! sent to whom.
 
 use macs_commands::requests::{Client, Clients, Heard};
-use macs_control::{Connection, ControlSocket, Door, Taken, Watched, Wires};
+use macs_control::{Connection, ControlSocket, Door, NO_SOCKET, Sockets, Taken, Watched};
 use std::alloc::Global;
 use std::cell::RefCell;
 use std::os::fd::RawFd;
@@ -125,11 +125,12 @@ fn is_heard(heard: &Option<Heard>, client: u64, line: &str) -> bool {
 fn each_client_is_heard_in_its_turn(rt: HostRuntime) {
     let given = RefCell::new(String::new(rt.alloc()));
     let door = Some(five(&rt, rt.alloc(), &given));
-    let wires = Wires {
-        controlled: -1,
-        common: -1,
+    let sockets = Sockets {
+        controlled: NO_SOCKET,
+        common: NO_SOCKET,
+        keeper: NO_SOCKET,
     };
-    let made = ControlSocket::over(&rt, rt.alloc(), door, wires, 0);
+    let made = ControlSocket::over(&rt, rt.alloc(), door, sockets, 0);
     let mut clients = made.expect(&rt, "memory");
     for (client, line) in HEARD {
         let heard = clients.hear();

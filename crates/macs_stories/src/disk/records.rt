@@ -82,7 +82,7 @@ fn protection_of(word: &str) -> Option<Protection> {
     Some(Protection::Confidentiality(offset_of(word)?))
 }
 
-/// `tx-association AN KEY clear CEILING`, with an offset in the place of `clear`.
+/// `tx-association AN KEY clear CEILING`, with an offset in place of `clear`.
 fn tx_association_of(words: &mut Words<'_>) -> Option<Record> {
     let an = an_of(words)?;
     let key = KeyOctets::of(key_of(words)?);

@@ -1,6 +1,7 @@
-//! What goes on beside an attended relay, in its own process: clients that come once everything is
-//! bound, and the parent that is notified.
+//! What goes on beside an attended relay or a keeper, in its own process: clients that come once
+//! everything is bound, and the parent that is notified.
 
+use super::visitors::Visitor;
 use libc::net as c;
 use os::FromRawFd;
 use std::alloc::{AllocError, Global};
@@ -194,22 +195,24 @@ impl Parent {
     }
 }
 
-/// What goes on beside a relay with a control socket.
+/// What goes on beside a relay with a control socket, or a keeper.
 #[derive(Drop)]
 pub struct Beside {
     control: &'static str,
     guests: Vec<Guest>,
+    visitors: Vec<Visitor>,
     have_come: Cell<bool>,
     have_gone_on: Cell<bool>,
     parent: Option<Parent>,
 }
 
 impl Beside {
-    /// Nobody, yet, beside a relay with this control socket.
+    /// Nobody, yet, beside a program with this socket.
     pub fn new(alloc: Global, control: &'static str) -> Beside {
         Beside {
             control,
             guests: Vec::new(alloc),
+            visitors: Vec::new(alloc),
             have_come: Cell::new(false),
             have_gone_on: Cell::new(false),
             parent: None,
@@ -224,6 +227,12 @@ impl Beside {
         later: &'static str,
     ) -> Result<(), Fail> {
         self.guests.push(Guest::new(alloc, lines, later))?;
+        Ok(())
+    }
+
+    /// Adds a client of a keeper.
+    pub fn admit(&mut self, visitor: Visitor) -> Result<(), Fail> {
+        self.visitors.push(visitor)?;
         Ok(())
     }
 
@@ -246,6 +255,9 @@ impl Beside {
         }
         for guest in &self.guests {
             let _ = guest.come(net, self.control);
+        }
+        for visitor in &self.visitors {
+            let _ = visitor.come(net, self.control);
         }
     }
 
@@ -299,6 +311,11 @@ impl Beside {
             Some(guest) => Ok(guest.told(alloc)?),
             None => Ok(String::new(alloc)),
         }
+    }
+
+    /// All that came to the client of a keeper with this number, if it has a connection.
+    pub fn answered(&self, alloc: Global, visitor: usize) -> Option<Vec<u8>> {
+        self.visitors.get(visitor)?.answered(alloc)
     }
 
     /// Whether a parent has seen this.

@@ -298,7 +298,7 @@ impl<R: Env + Files + Net> Env for StandIn<'_, R> {
         self.system.arg(i, buf)
     }
 
-    /// An attended relay asks for this one name, once everything is bound.
+    /// An attended relay asks for this one name, once everything is bound, and so does a keeper.
     fn var(&self, name: &str, buf: &mut [u8]) -> Result<usize, FillError> {
         match self.beside {
             Some(beside) => {

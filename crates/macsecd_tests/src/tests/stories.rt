@@ -2,6 +2,7 @@
 
 mod attended;
 mod files;
+mod kept;
 mod relays;
 mod runs;
 
@@ -9,6 +10,7 @@ use super::expect;
 use super::stand_in::Broken;
 use crate::Outcome;
 pub use attended::{Attended, Client, Told};
+pub use kept::Kept;
 pub use relays::{Frames, Relayed};
 use std::alloc::Global;
 use std::fs;
@@ -33,6 +35,8 @@ pub enum Step {
     Relay(Relayed),
     /// Relays beside clients and a parent.
     Attend(Attended),
+    /// Keeps a disk file for a client.
+    Keep(Kept),
     /// Runs these words while another open of the file of this path has claimed it: for itself
     /// alone, or along with other readers.
     Claimed(&'static str, &'static [&'static str], Outcome),
@@ -87,6 +91,7 @@ fn take(
         }
         Step::Relay(relayed) => relays::relay(rt, alloc, relayed),
         Step::Attend(attended) => attended::attend(rt, alloc, attended),
+        Step::Keep(kept) => kept::keep(rt, alloc, kept),
         _ => take_beside(rt, alloc, step),
     }
 }

@@ -2,7 +2,7 @@
 
 use super::help_text::{
     ABOUT_TEXT, APPLY_TEXT, ASK_TEXT, CHECK_TEXT, EXAMINE_TEXT, FORMAT_TEXT, HELP_TEXT,
-    INSPECT_TEXT, KEY_TEXT, OPEN_TEXT, PLAN_TEXT, PROTECT_TEXT, RELAY_TEXT, SHOW_TEXT,
+    INSPECT_TEXT, KEEP_TEXT, KEY_TEXT, OPEN_TEXT, PLAN_TEXT, PROTECT_TEXT, RELAY_TEXT, SHOW_TEXT,
     VALIDATE_TEXT,
 };
 use super::{INPUT, OPENED, expect, printed};
@@ -86,6 +86,7 @@ fn prints_help_on_captures(rt: HostRuntime) {
 #[test]
 fn prints_help_on_relays(rt: HostRuntime) {
     expect_help(&rt, rt.alloc(), "relay", RELAY_TEXT);
+    expect_help(&rt, rt.alloc(), "keep", KEEP_TEXT);
     expect_help(&rt, rt.alloc(), "ask", ASK_TEXT);
 }
 
@@ -126,6 +127,7 @@ const FORMS: &[&str] = &[
     "\n  protect DISK INPUT OUTPUT   ",
     "\n  validate DISK INPUT OUTPUT   ",
     "\n  relay DISK OWN1 PEER1 OWN2 PEER2 --turns n\n",
+    "\n  keep DISK SOCKET   ",
     "\n  ask PATH show|counters|keys|traffic|about|stop|apply FILE\n",
     "\n  key   ",
     "\n  inspect INPUT   ",

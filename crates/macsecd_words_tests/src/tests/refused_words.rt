@@ -160,6 +160,16 @@ const WORDS_TOO_FEW: &[Row] = &[
         Outcome::Usage("macsecd: the following required arguments were not provided: <OUTPUT>\n"),
     ),
     (
+        &["keep"],
+        Outcome::Usage(
+            "macsecd: the following required arguments were not provided: <DISK> <SOCKET>\n",
+        ),
+    ),
+    (
+        &["keep", "left.disk"],
+        Outcome::Usage("macsecd: the following required arguments were not provided: <SOCKET>\n"),
+    ),
+    (
         &["ask"],
         Outcome::Usage(
             "macsecd: the following required arguments were not provided: <PATH> <WORD>\n",
@@ -283,6 +293,7 @@ const WORDS_TOO_MANY: &[&[&str]] = &[
         "plain.pcap",
         "more",
     ],
+    &["keep", "left.disk", "keeper", "more"],
     &["ask", "control", "apply", "left.toml", "more"],
     &["key", "more"],
     &["key", "--long", "more"],
@@ -424,6 +435,22 @@ const WORDS_WITH_OPTIONS: &[Row] = &[
     (
         &["ask", "control", "show", "--json", "--json"],
         Outcome::Usage("macsecd: the argument '--json' cannot be used multiple times\n"),
+    ),
+    (
+        &["keep", "left.disk", "keeper", "--wait", "5"],
+        Outcome::Usage("macsecd: unexpected argument '--wait' found\n"),
+    ),
+    (
+        &["keep", "left.disk", "keeper", "--keeper"],
+        Outcome::Usage("macsecd: unexpected argument '--keeper' found\n"),
+    ),
+    (
+        &["protect", "--keeper", "d", "i", "o"],
+        Outcome::Usage("macsecd: unexpected argument '--keeper' found\n"),
+    ),
+    (
+        &["show", "left.disk", "--keeper"],
+        Outcome::Usage("macsecd: unexpected argument '--keeper' found\n"),
     ),
     (
         &["inspect", "--long", "plain.pcap"],

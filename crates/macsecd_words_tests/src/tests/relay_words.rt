@@ -122,6 +122,30 @@ const WORDS: &[Row] = &[
         Usage("macsecd: the argument '--metrics <metrics>' cannot be used multiple times\n"),
     ),
     (
+        &["relay", NO, ANY, ANY, ANY, ANY, "--keeper=s"],
+        Usage(
+            "macsecd: the following required arguments were not provided: --turns n or --wait MS\n",
+        ),
+    ),
+    (
+        &["relay", NO, ANY, ANY, ANY, ANY, "--turns=1", "--keeper"],
+        Usage("macsecd: a value is required for '--keeper <keeper>' but none was supplied\n"),
+    ),
+    (
+        &[
+            "relay",
+            NO,
+            ANY,
+            ANY,
+            ANY,
+            ANY,
+            "--keeper=s",
+            "--wait=1",
+            "--keeper=s",
+        ],
+        Usage("macsecd: the argument '--keeper <keeper>' cannot be used multiple times\n"),
+    ),
+    (
         &["relay", NO, ANY, ANY, ANY, ANY, "--buffer", "0"],
         Usage("macsecd: invalid value '0' for '--buffer <buffer>': 0 is not in 1..=1073741823\n"),
     ),

@@ -127,6 +127,14 @@ const TAKEN: &[(&[&str], Parts<'static>)] = &[
         ("relay", ["--wait", "a", "b", "c", "e"], [5, 0]),
     ),
     (
+        &["keep", "left.disk", "keeper"],
+        ("keep", ["left.disk", "keeper", "", "", ""], [0, 0]),
+    ),
+    (
+        &["keep", "--", "--keeper", ""],
+        ("keep", ["--keeper", "", "", "", ""], [0, 0]),
+    ),
+    (
         &["ask", "p", "show"],
         ("ask show", ["p", "", "", "", ""], [0, 0]),
     ),
@@ -234,14 +242,15 @@ const TAKEN: &[(&[&str], Parts<'static>)] = &[
     (&["about"], ("about", ["", "", "", "", ""], [0, 0])),
 ];
 
-/// What a relay serves: a control socket, a file of counters, and a buffer in octets.
-type Served<'a> = (&'a str, &'a str, u32);
+/// What a relay serves: a control socket, a file of counters, and a buffer in octets; and the socket
+/// of its keeper.
+type Served<'a> = (&'a str, &'a str, u32, &'a str);
 
 /// Words of a relay, and what it serves.
 const SERVED: &[(&[&str], Served<'static>)] = &[
     (
         &["relay", "d", "a", "b", "c", "e", "--wait", "5"],
-        ("", "", 0),
+        ("", "", 0, ""),
     ),
     (
         &[
@@ -260,7 +269,7 @@ const SERVED: &[(&[&str], Served<'static>)] = &[
             "--buffer",
             "1073741823",
         ],
-        ("p", "m", 1_073_741_823),
+        ("p", "m", 1_073_741_823, ""),
     ),
     (
         &[
@@ -275,7 +284,31 @@ const SERVED: &[(&[&str], Served<'static>)] = &[
             "--turns",
             "5",
         ],
-        ("", "m", 1),
+        ("", "m", 1, ""),
+    ),
+    (
+        &[
+            "relay", "d", "a", "b", "c", "e", "--wait", "5", "--keeper", "s",
+        ],
+        ("", "", 0, "s"),
+    ),
+    (
+        &[
+            "relay",
+            "--keeper=s",
+            "--turns=5",
+            "--control=p",
+            "d",
+            "a",
+            "b",
+            "c",
+            "e",
+        ],
+        ("p", "", 0, "s"),
+    ),
+    (
+        &["relay", "--turns=5", "--", "d", "a", "b", "c", "--keeper"],
+        ("", "", 0, ""),
     ),
 ];
 
@@ -293,6 +326,7 @@ fn served_so<'a>(running: Running<'a>) -> Served<'a> {
         running.control.unwrap_or(""),
         running.metrics.unwrap_or(""),
         running.buffer.unwrap_or(0),
+        running.keeper.unwrap_or(""),
     )
 }
 
@@ -324,7 +358,7 @@ fn is_of(action: Action<'_>, wanted: &Parts<'_>) -> bool {
     }
 }
 
-/// The same of an action on an endpoint, without frames.
+/// The same of an action on a disk file, without frames.
 fn is_on_disk(action: DiskAction<'_>, wanted: &Parts<'_>) -> bool {
     match action {
         DiskAction::Format {
@@ -353,6 +387,12 @@ fn is_on_disk(action: DiskAction<'_>, wanted: &Parts<'_>) -> bool {
             [0, 0],
         ),
         DiskAction::Show { disk } => is_named(wanted, "show", [disk, "", "", "", ""], [0, 0]),
+        DiskAction::Keep { disk, socket } => is_named(
+            wanted,
+            "keep",
+            [disk, socket, "", "", ""],
+            [0, 0],
+        ),
     }
 }
 

@@ -11,5 +11,5 @@ returns g c = (
     c.carry-2.ensures,
   ),
   c.facts.ensures,
-  (c.step.ensures.call, c.step.ensures.at_once),
+  c.progress.ensures,
 )

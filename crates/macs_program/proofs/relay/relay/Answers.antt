@@ -1,61 +1,13 @@
-use Rattle.std.proofs.Common.{Err, refl}
-use Rattle.std.proofs.lemmas.Result.{err_from_is_err_and}
-use Rattle.macs_program.proofs.Relayed.{refused-in, relayed-in, unbound-in}
-use Rattle.macs_program.specs.Relaying.{course_of}
 use Rattle.macs_program.proofs.relay.relay.Goals as goal
 
-pub returns-in_err-addresses : goal.returns-in_err-addresses
-returns-in_err-addresses g c =
-    let p = err_from_is_err_and c.from_residual.result c.from_residual.ensures.1 in
-    let all =
-    refused-in g.T.File.DiskFile.file g.W.Stream.contents g.W.Stream.failed c.args.controlled c.args.common
-    (course_of g.row.T.Denot c.args.disk.now c.args.running) c.args.out.now
-    c.addresses_of.result c.addresses_of.ensures.fault c.in_err-addresses.field-0.0 p.0 c.from_residual.result
-    c.in_err-addresses.was p.1 p.2 in
-    record {
-      printed = all.printed;
-      address = all.address;
-      usage = all.usage;
-      ended = all.ended;
-      names = all.names;
-      silent = all.silent;
-      broken = all.broken;
-    }
+pub returns-in-None-clause-printed : goal.returns-in-None-clause-printed
+returns-in-None-clause-printed g c = rw c.in-None.is c.relay_in_file.ensures.printed
 
-pub returns-in-Ok : goal.returns-in-Ok
-returns-in-Ok g c =
-    let words = c.in_ok-addresses in
-    let all =
-    relayed-in g.T.File.DiskFile.file g.W.Stream.contents g.W.Stream.failed c.args.controlled c.args.common
-    (course_of g.row.T.Denot c.args.disk.now c.args.running) c.args.out.now
-    c.addresses_of.result c.addresses_of.ensures.fault words.addresses c.with_file.new.out c.with_file.result words.was
-    (words.addresses.controlled, words.addresses.common, words.ensures.controlled, words.ensures.common)
-    c.with_file.ensures in
-    record {
-      printed = all.printed;
-      address = all.address;
-      usage = all.usage;
-      ended = all.ended;
-      names = all.names;
-      silent = all.silent;
-      broken = all.broken;
-    }
+pub returns-in-None-clause-ended : goal.returns-in-None-clause-ended
+returns-in-None-clause-ended g c = rw c.in-None.is c.relay_in_file.ensures.ended
 
-pub returns-in-Err : goal.returns-in-Err
-returns-in-Err g c =
-    let words = c.in_ok-addresses in
-    let all =
-    unbound-in g.T.File.DiskFile.file g.W.Stream.contents g.W.Stream.failed c.args.controlled c.args.common
-    (course_of g.row.T.Denot c.args.disk.now c.args.running) c.args.out.now
-    c.addresses_of.result c.addresses_of.ensures.fault words.addresses c.unbound.result (Err c.unbound.result)
-    words.was refl
-    c.unbound.ensures.unbound in
-    record {
-      printed = all.printed;
-      address = all.address;
-      usage = all.usage;
-      ended = all.ended;
-      names = all.names;
-      silent = all.silent;
-      broken = all.broken;
-    }
+pub returns-in-Some-clause-printed : goal.returns-in-Some-clause-printed
+returns-in-Some-clause-printed g c = rw c.in-Some.is c.relay_kept.ensures.printed
+
+pub returns-in-Some-clause-ended : goal.returns-in-Some-clause-ended
+returns-in-Some-clause-ended g c = rw c.in-Some.is c.relay_kept.ensures.ended

@@ -1,0 +1,111 @@
+//! Keepers of a disk file, and their clients.
+
+use super::super::beside::Beside;
+use super::super::expect_over;
+use super::super::stand_in::{Broken, StandIn};
+use super::super::visitors::Visitor;
+use crate::Outcome;
+use std::alloc::Global;
+use std::fs::File;
+use std::net::Net;
+use std::process::Abort;
+use std::random::RandomSource;
+use std::rt::{Clock, Env, Files};
+use std::test::Fail;
+
+/// A request: its first octet, the number of the sector, and what its sector is full of.
+pub type Request = (u8, u64, u8);
+
+/// An answer: its first octet, and what its sector is full of.
+pub type Answer = (u8, u8);
+
+/// A keeper, to which two clients come at once, and what it comes to.
+#[derive(Clone, Copy)]
+pub struct Kept {
+    pub disk: &'static str,
+    /// What fails of the disk file.
+    pub broken: Broken,
+    pub socket: &'static str,
+    /// How many sectors the first client is told, what it sends, and its answers. What the second
+    /// one sends is not read.
+    pub sectors: u64,
+    pub requests: &'static [Request],
+    pub answers: &'static [Answer],
+    /// The name of the parent's socket, and what the parent sees.
+    pub parent: &'static str,
+    pub seen: &'static str,
+    pub outcome: Outcome,
+}
+
+/// Appends a sector full of an octet.
+fn push_sector(octets: &mut Vec<u8>, fill: u8) -> Result<(), Fail> {
+    octets.extend_from_slice(&[fill; 512])?;
+    Ok(())
+}
+
+/// The octets of requests.
+fn requests_of(alloc: Global, requests: &[Request]) -> Result<Vec<u8>, Fail> {
+    let mut octets = Vec::new(alloc);
+    for (kind, at, fill) in requests {
+        octets.push(*kind)?;
+        octets.extend_from_slice(&at.to_be_bytes())?;
+        push_sector(&mut octets, *fill)?;
+    }
+    Ok(octets)
+}
+
+/// The octets of a greeting and of answers.
+fn answers_of(alloc: Global, sectors: u64, answers: &[Answer]) -> Result<Vec<u8>, Fail> {
+    let mut octets = Vec::new(alloc);
+    octets.extend_from_slice(b"MSECKEEP")?;
+    octets.extend_from_slice(&sectors.to_be_bytes())?;
+    for (kind, fill) in answers {
+        octets.push(*kind)?;
+        push_sector(&mut octets, *fill)?;
+    }
+    Ok(octets)
+}
+
+/// Runs the keeper, and looks at what came to its clients.
+pub fn keep(
+    rt: &(impl Abort + Files<File = File> + Net + Clock + Env + RandomSource),
+    alloc: Global,
+    kept: Kept,
+) -> Result<(), Fail> {
+    let beside = beside(rt, alloc, &kept)?;
+    run(rt, alloc, &beside, &kept);
+    beside.look(rt, "end");
+    assert!(rt; beside.has_seen(kept.seen));
+    let answers = answers_of(alloc, kept.sectors, kept.answers)?;
+    assert!(rt; beside.answered(alloc, 0) == Some(answers));
+    assert!(rt; beside.answered(alloc, 1) == Some(Vec::new(alloc)));
+    Ok(())
+}
+
+/// Who is there beside the keeper.
+fn beside(files: &impl Files<File = File>, alloc: Global, kept: &Kept) -> Result<Beside, Fail> {
+    let mut beside = Beside::new(alloc, kept.socket);
+    for _client in 0..2_u32 {
+        beside.admit(Visitor::new(requests_of(alloc, kept.requests)?))?;
+    }
+    beside.notify(files, alloc, kept.parent)?;
+    Ok(beside)
+}
+
+/// Runs the keeper with these beside it.
+fn run<'a>(
+    rt: &'a (impl Abort + Files<File = File> + Net + Clock + Env + RandomSource),
+    alloc: Global,
+    beside: &'a Beside,
+    kept: &'a Kept,
+) {
+    let system = StandIn {
+        system: rt,
+        path: kept.disk,
+        broken: kept.broken,
+        peers: None,
+        beside: Some(beside),
+    };
+    let words = ["keep", kept.disk, kept.socket];
+    expect_over(rt, &system, alloc, &words, kept.outcome);
+}
