@@ -9,6 +9,7 @@ pub mod EachLine
 pub mod Failed
 pub mod InFiles
 pub mod JudgedFiles
+pub mod KeptFiles
 pub mod Made
 pub mod Performed
 pub mod Printing

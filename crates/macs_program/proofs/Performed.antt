@@ -1,6 +1,6 @@
 -- What each subcommand comes to, as the doing of an action.
 use Rattle.std.proofs.Common.{Bor, ◌≡◌, ◌≢◌, ◌⊎◌, inl, inr, ℕ, List, Bool, true, false, if◌then◌else◌, Option, IfSome}
-use Rattle.std.proofs.Common.{Result, IfErr, IfOk, refl, sym, subst, ◌∙◌, ap, Some, None}
+use Rattle.std.proofs.Common.{Result, Ok, Err, IfErr, IfOk, refl, sym, subst, ◌∙◌, ap, Some, None}
 use Rattle.std.specs.Io.KnownBytes.{Appends}
 use Rattle.std.specs.List.{list_any}
 use Rattle.std.specs.Prelude.{◌&&◌, is_some, nat_lt}
