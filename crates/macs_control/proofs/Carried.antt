@@ -102,9 +102,3 @@ heard-end held kept (Some old) new (over, are, now) = (
 pub heard-held : (held : List ℕ) (link : Option Link) → Reads (conversation held link) held (conversation [] link)
 heard-held held None = tt
 heard-held held (Some link) = (link.coming, refl, refl)
-
--- what is taken from a connection of which nothing is held is read
-pub takes-reads : (old new : Option Link) (octets : List ℕ) → Takes old octets new
-    → Reads (conversation [] old) octets (conversation [] new)
-takes-reads None new octets takes = tt
-takes-reads (Some old) new octets (rest, is, now) = (rest, is, ap (λ (o : Option Link). conversation [] o) now)

@@ -15,4 +15,5 @@ pub mod Served
 pub mod ServedClients
 pub mod Carried
 pub mod KeeperWork
+pub mod CourierCalls
 pub mod KeptCalls

@@ -21,4 +21,5 @@ pub mod Listening
 pub mod Serving
 pub mod LastGood
 pub mod Keepers
+pub mod Couriers
 pub mod KeptDisks

@@ -11,7 +11,7 @@ use crate::door::{Door, Watched};
 use crate::seats::{MAX_CLIENTS, Seats};
 use crate::second::EachSecond;
 use crate::signals::is_told_to_end;
-use crate::watch::{NO_SOCKET, Watch, Sockets};
+use crate::watch::{NO_SOCKET, Sockets, Watch};
 use macs_commands::requests::{Client, Clients, Heard};
 use std::alloc::{AllocError, Global};
 use std::net::Net;

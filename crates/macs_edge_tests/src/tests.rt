@@ -1,5 +1,6 @@
 //! Captures as files and through an endpoint, command files with each wrong value, memory that is
-//! refused, wires, the lines of a control socket and the desk that answers them.
+//! refused, wires, the lines of a control socket and the desk that answers them, and a disk that a
+//! keeper keeps.
 
 mod capture_files;
 mod captures;
@@ -10,6 +11,7 @@ mod endpoints;
 mod fault_wires;
 mod hostile_files;
 mod hostile_texts;
+mod keeping;
 mod links;
 mod memory;
 mod relaying;

@@ -12,6 +12,7 @@ use crate::keeping::cut::Cut;
 use crate::keeping::taking::take_whole;
 use crate::keeping::waiting::Waits;
 use arrayvec::ArrayVec;
+use macs_commands::secrets::wipe;
 use macs_disk::messages::{CallAnswer, Greeting, REQUEST};
 use macs_disk::{DeviceCall, SectorDisk};
 
@@ -49,11 +50,13 @@ fn next_call<C: Waits>(sectors: u64, client: &mut C) -> Result<DeviceCall, KeepE
     ensures end { IfErr result (λ end. AsksNot sectors end (C.link client.old)
         (C.link client.new)) }
 {
-    let octets: ArrayVec<u8, REQUEST> = match take_whole(client) {
+    let mut octets: ArrayVec<u8, REQUEST> = match take_whole(client) {
         Ok(octets) => octets,
         Err(cut) => return Err(end_of(cut)),
     };
-    let Some(call) = DeviceCall::requested(octets.as_slice()) else {
+    let requested = DeviceCall::requested(octets.as_slice());
+    wipe(octets.as_mut_slice());
+    let Some(call) = requested else {
         return Err(KeepEnd::Malformed);
     };
     if !call.is_within(sectors) {
@@ -70,7 +73,11 @@ fn make<D: SectorDisk, C: Connection>(disk: &mut D, client: &mut C, call: &Devic
 {
     let mut read = [0; 512];
     let end = call.make(disk, &mut read);
-    client.try_send(&CallAnswer::to(call, &read, end).octets())
+    let mut octets = CallAnswer::to(call, &read, end).octets();
+    let is_sent = client.try_send(&octets);
+    wipe(&mut octets);
+    wipe(&mut read);
+    is_sent
 }
 
 /// Serves one request.

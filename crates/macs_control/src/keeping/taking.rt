@@ -8,8 +8,9 @@ use crate::connection::{Connection, Taken};
 use crate::keeping::cut::Cut;
 use crate::keeping::waiting::Waits;
 use arrayvec::ArrayVec;
+use macs_commands::secrets::wipe;
 
-/// Takes what arrived of a message.
+/// Takes what arrived of a message, and overwrites what it was taken into.
 pub(crate) fn take_part<C: Connection, const N: usize>(
     from: &mut C,
     held: &mut ArrayVec<u8, N>,
@@ -21,6 +22,7 @@ pub(crate) fn take_part<C: Connection, const N: usize>(
     let taken = from.take_into(part);
     if let Taken::Octets(count) = taken {
         held.try_extend_from_slice(&part[..count]).unwrap();
+        wipe(part);
     }
     taken
 }

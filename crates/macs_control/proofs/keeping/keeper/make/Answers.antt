@@ -4,5 +4,6 @@ use Rattle.macs_control.proofs.keeping.keeper.make.Goals as goal
 
 pub returns : goal.returns
 returns g c =
-    made-one _ _ c.args.call.now c.make-end.new.read c.make-end.result c.to.result c.octets.result c.octets.result
-    c.try_send.result _ _ c.make-end.ensures c.to.ensures c.octets.ensures refl c.try_send.ensures.given
+    made-one _ _ c.args.call.now c.make-end.new.read c.make-end.result c.to.result c.octets-octets.result
+    c.octets-octets.result c.try_send-is_sent.result _ _ c.make-end.ensures c.to.ensures c.octets-octets.ensures refl
+    c.try_send-is_sent.ensures.given

@@ -1,8 +1,8 @@
 use Rattle.std.proofs.Common.{◌≡◌, [], false, sym, ◌∙◌, true}
 use Rattle.macs_control.specs.declared.connection.Taken.TheVariants.{Ended, Gone}
 use Rattle.macs_control.proofs.Carried.{heard-end, heard-part}
-use Rattle.macs_control.proofs.KeptCalls.{hears-if-later, nothing-said}
-use Rattle.macs_control.proofs.keeping.kept_disk.KeptDisk.look.Goals as goal
+use Rattle.macs_control.proofs.CourierCalls.{hears-if-later, nothing-said}
+use Rattle.macs_control.proofs.keeping.courier.Courier.look.Goals as goal
 
 pub returns-in-Octets-clause-some : goal.returns-in-Octets-clause-some
 returns-in-Octets-clause-some g c =

@@ -1,6 +1,7 @@
-use Rattle.macs_control.specs.KeptDisks.{done_answer}
-use Rattle.macs_control.proofs.KeptCalls.{none-some, whole-sector}
-use Rattle.macs_control.proofs.keeping.kept_disk.end_of.Goals as goal
+use Rattle.std.proofs.lemmas.Option.{none-some}
+use Rattle.macs_control.specs.Couriers.{done_answer}
+use Rattle.macs_control.proofs.CourierCalls.{whole-sector}
+use Rattle.macs_control.proofs.keeping.courier.end_of.Goals as goal
 
 pub returns-in_default-clause-fault : goal.returns-in_default-clause-fault
 returns-in_default-clause-fault c = λ read size is.

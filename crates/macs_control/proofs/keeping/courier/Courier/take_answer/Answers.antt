@@ -1,6 +1,6 @@
 use Rattle.macs_control.proofs.Carried.{heard-held}
-use Rattle.macs_control.proofs.KeptCalls.{hears-said}
-use Rattle.macs_control.proofs.keeping.kept_disk.KeptDisk.take_answer.Goals as goal
+use Rattle.macs_control.proofs.CourierCalls.{hears-said}
+use Rattle.macs_control.proofs.keeping.courier.Courier.take_answer.Goals as goal
 
 pub returns-clause-some : goal.returns-clause-some
 returns-clause-some g c =
