@@ -28,10 +28,7 @@ use std::rt::{Clock, Env, Files};
 
 /// The disk of the keeper that listens on this name, once it has greeted, and the descriptor of the
 /// connection. Fails with `Disk` if no keeper listens there, or if it does not greet.
-fn kept_disk_at<N: Net>(
-    net: &N,
-    path: &str,
-) -> Result<(KeptDisk<UnixStream>, RawFd), Failure>
+fn kept_disk_at<N: Net>(net: &N, path: &str) -> Result<(KeptDisk<UnixStream>, RawFd), Failure>
     ensures { IfErr result (λ failure. failure ≡ failure_of_journal journal.Disk) }
 {
     let Some(stream) = connect(net, path) else {
