@@ -10,7 +10,7 @@ status 4; a relay is asked to stop, by which it rests, and it and its keeper end
 
 What is asserted: no packet number twice under one key, no plain frame twice; after a planned end the next packet number on the wire is the one after the last; and at the end of
 each round, once no frame has come for half a second, what a relay counts as sent and as delivered since its start is what this script has seen.
-It prints the rounds, the frames and the packet numbers. It needs a C compiler, cc.
+It prints the rounds, the frames and the packet numbers. It needs a C compiler, cc, and root, for large buffers.
 """
 import os
 import random
@@ -32,6 +32,8 @@ def udp():
     made = socket.socket(socket.AF_INET, socket.SOCK_DGRAM)
     made.bind(("127.0.0.1", 0))
     made.setblocking(False)
+    # No frame is lost here while the script waits for a start: SO_RCVBUFFORCE, for root alone.
+    made.setsockopt(socket.SOL_SOCKET, 33, 1 << 24)
     return made
 
 
@@ -157,8 +159,9 @@ class Soak:
             if before == (self.sent, self.delivered):
                 break
         for end, line, seen in ((self.left, "tx protected", self.sent - self.left.before), (self.right, "rx ok", self.delivered - self.right.before)):
-            counted = int(re.search(rf"^{line} (\d+)$", end.ask("counters"), re.M)[1])
-            assert counted == seen, (end.name, line, counted, seen)
+            said = end.ask("counters")
+            counted = int(re.search(rf"^{line} (\d+)$", said, re.M)[1])
+            assert counted == seen, (end.name, line, counted, seen, said)
 
     def start(self, end):
         end.start()
