@@ -9,7 +9,7 @@ happens, in turn and with the frames under way: a new key on both ends, under th
 status 4; a relay is asked to stop, by which it rests, and it and its keeper end with status 0. What has ended starts again, the keeper first.
 
 What is asserted: no packet number twice under one key, no plain frame twice; after a planned end the next packet number on the wire is the one after the last; and at the end of
-each round, once no frame has come for half a second, what a relay counts as sent and as delivered since its start is what this script has seen.
+each round, once no frame has come for two seconds, what a relay counts as sent and as delivered since its start is what this script has seen.
 It prints the rounds, the frames and the packet numbers. It needs a C compiler, cc, and root, for large buffers.
 """
 import os
@@ -152,10 +152,10 @@ class Soak:
         self.delivered += 1
 
     def settle(self):
-        """No frame is sent until none has come for half a second; then each relay has counted what was seen."""
+        """No frame is sent until none has come for two seconds; then each relay has counted what was seen."""
         while True:
             before = (self.sent, self.delivered)
-            self.pass_frames(0.5, sends=False)
+            self.pass_frames(2, sends=False)
             if before == (self.sent, self.delivered):
                 break
         for end, line, seen in ((self.left, "tx protected", self.sent - self.left.before), (self.right, "rx ok", self.delivered - self.right.before)):
