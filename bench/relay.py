@@ -5,6 +5,8 @@
     python3 bench/relay.py --receive [FRAMES]
     python3 bench/relay.py --slow [FRAMES]
 
+and with `--keeper` beside `--receive` or `--slow`: then a keeper has the disk file of each relay (`macsecd keep`), and its syncs are the slow ones.
+
 FRAMES is 20,000 for each of the two sizes, 64 and 1,400 octets; blocks are 65,536. The two relays run in turn, five times; the figures
 are those of the most frames a second. What a frame takes longer in macsecd is the endpoint's part. With `--wait` both relays sleep while nothing
 comes (`relay --wait 1000`, and a copier over epoll); then each also takes 2,000 frames of 64 octets one at a time, a millisecond apart, and
@@ -75,19 +77,29 @@ offset = 0
 
 
 class Relay:
-    """A relay that runs, until the end of the block."""
+    """A relay that runs, until the end of the block. If it has a keeper, that runs too, and in this environment."""
 
-    def __init__(self, words, environment=None):
+    def __init__(self, words, environment=None, disk=None):
         self.words = words
         self.environment = {**os.environ, **(environment or {})}
+        self.disk, self.keeper = disk, None
 
     def __enter__(self):
-        self.process = subprocess.Popen(self.words, stdout=subprocess.DEVNULL, env=self.environment)
+        environment = self.environment
+        if self.disk:
+            socket = self.disk + ".keeper"
+            self.keeper = subprocess.Popen([PROGRAM, "keep", self.disk, socket], env=environment)
+            while not os.path.exists(socket):
+                time.sleep(0.01)
+            self.words, environment = [*self.words, "--keeper", socket], os.environ
+        self.process = subprocess.Popen(self.words, stdout=subprocess.DEVNULL, env=environment)
         return self
 
     def __exit__(self, *_):
         self.process.kill()
         self.process.wait()
+        if self.keeper:
+            self.keeper.wait()
 
     def seconds(self):
         """The processor seconds that it has taken."""
@@ -95,8 +107,8 @@ class Relay:
             return int(file.read().split()[0]) / 1e9
 
     def written(self):
-        """The octets that it had the system write to devices: whole pages of its disk file."""
-        with open(f"/proc/{self.process.pid}/io", encoding="ascii") as file:
+        """The octets that it, or its keeper, had the system write to devices: whole pages of its disk file."""
+        with open(f"/proc/{(self.keeper or self.process).pid}/io", encoding="ascii") as file:
             return next(int(it.split()[1]) for it in file if it.startswith("write_bytes:"))
 
 
@@ -190,10 +202,10 @@ def until_bound(port):
         time.sleep(0.01)
 
 
-def receive(tool, disk, capture, rx):
+def receive(tool, disk, capture, rx, has_keeper):
     """Frames a second that a relay with a new disk file delivers, how many came, and the octets that it wrote for each."""
     new_disk(disk, "0200000000020001", rx, PEER_COMMANDS)
-    with Relay([*relaying(disk), "--wait", "1000"]) as relay:
+    with Relay([*relaying(disk), "--wait", "1000"], disk=disk if has_keeper else None) as relay:
         until_bound(OWN2)
         before = relay.written()
         played = subprocess.run([tool, "play", OUTSIDE, OWN2, INSIDE, capture], check=True, capture_output=True, text=True)
@@ -201,7 +213,7 @@ def receive(tool, disk, capture, rx):
         return float(rate), int(came), (relay.written() - before) / int(came)
 
 
-def measure_receiving(folder, frames):
+def measure_receiving(folder, frames, has_keeper):
     tool, disk, sender = built_tool(folder), os.path.join(folder, "disk"), os.path.join(folder, "sender")
     plain, protected = os.path.join(folder, "plain"), os.path.join(folder, "protected")
     place = subprocess.run(["findmnt", "-n", "-o", "FSTYPE,SOURCE", "-T", folder], check=True, capture_output=True, text=True).stdout.split()
@@ -211,7 +223,7 @@ def measure_receiving(folder, frames):
         write_plain(plain, octets, frames)
         subprocess.run([PROGRAM, "protect", sender, plain, protected], check=True, stdout=subprocess.DEVNULL)
         for rx in BLOCKS:
-            rounds = [receive(tool, disk, protected, rx) for _ in range(RECEIVING_ROUNDS)]
+            rounds = [receive(tool, disk, protected, rx, has_keeper) for _ in range(RECEIVING_ROUNDS)]
             rate, came, written = max(rounds)
             print(
                 f"{octets} octets, RX {rx}: {rate:.0f} frames a second, {rate * octets * 8 / 1e6:.1f} Mbit/s, {written:.0f} octets written a frame;"
@@ -222,10 +234,11 @@ def measure_receiving(folder, frames):
 
 # Slow syncs.
 
-def pass_slowly(tool, library, disk, slower, frames):
+def pass_slowly(tool, library, disk, slower, frames, has_keeper):
     """How many frames were lost while syncs took so much longer, and the longest time without one, in milliseconds."""
     new_disk(disk, SCI, SLOW_BLOCK, COMMANDS, SLOW_BLOCK)
-    with Relay([*relaying(disk), "--wait", "1000"], {"LD_PRELOAD": library, "SLOW_SYNC": str(slower)}):
+    slowed = {"LD_PRELOAD": library, "SLOW_SYNC": str(slower)}
+    with Relay([*relaying(disk), "--wait", "1000"], slowed, disk if has_keeper else None):
         until_bound(OWN2)
         # The reservations after the opening are not measured.
         time.sleep(1 + slower / 100)
@@ -234,11 +247,11 @@ def pass_slowly(tool, library, disk, slower, frames):
         return frames - int(came), float(longest)
 
 
-def measure_slowed(folder, frames):
+def measure_slowed(folder, frames, has_keeper):
     tool, disk, library = built_tool(folder), os.path.join(folder, "disk"), os.path.join(folder, "slow_sync.so")
     subprocess.run(["cc", "-O2", "-shared", "-fPIC", "-o", library, os.path.join(TOP, "bench/slow_sync.c")], check=True)
     for slower in SLOWER:
-        rounds = [pass_slowly(tool, library, disk, slower, frames) for _ in range(SLOW_ROUNDS)]
+        rounds = [pass_slowly(tool, library, disk, slower, frames, has_keeper) for _ in range(SLOW_ROUNDS)]
         said = "; ".join(f"{lost} of {frames} lost, none for {longest:.1f} ms" for lost, longest in rounds)
         print(f"syncs {slower} ms longer, {SLOW_RATE} frames a second: {said}", flush=True)
 
@@ -260,16 +273,17 @@ def measure_sending(folder, frames, waits):
 
 def main():
     options = {"--wait", "--receive", "--slow"} & set(sys.argv[1:])
-    counts = [it for it in sys.argv[1:] if it not in options]
-    if len(counts) > 1 or len(options) > 1 or not all(it.isdigit() for it in counts):
+    has_keeper = "--keeper" in sys.argv[1:]
+    counts = [it for it in sys.argv[1:] if it not in {*options, "--keeper"}]
+    if len(counts) > 1 or len(options) > 1 or has_keeper and not options - {"--wait"} or not all(it.isdigit() for it in counts):
         sys.exit(__doc__)
     if "MACSECD_PROGRAM" not in os.environ:
         subprocess.run([PROVE, CPU], check=True, stdout=subprocess.DEVNULL)
     with tempfile.TemporaryDirectory() as folder:
         if "--receive" in options:
-            measure_receiving(folder, int(counts[0]) if counts else RECEIVING_FRAMES)
+            measure_receiving(folder, int(counts[0]) if counts else RECEIVING_FRAMES, has_keeper)
         elif "--slow" in options:
-            measure_slowed(folder, int(counts[0]) if counts else SLOW_FRAMES)
+            measure_slowed(folder, int(counts[0]) if counts else SLOW_FRAMES, has_keeper)
         else:
             measure_sending(folder, int(counts[0]) if counts else 20_000, "--wait" in options)
 

@@ -41,7 +41,7 @@ impl ValueFault {
 }
 
 /// Whether this many packet numbers may be reserved at a time.
-fn is_block(block: u32) -> bool
+fn can_be_reserved(block: u32) -> bool
     ensures { IsTrue result ↔ IsBlock block }
 {
     (1..=65_536).contains(&block)
@@ -87,7 +87,7 @@ pub fn format_values(
     let Some(sci) = sci_of(sci.as_bytes()) else {
         return Err(ValueFault::Sci);
     };
-    if !is_block(tx_block) {
+    if !can_be_reserved(tx_block) {
         return Err(ValueFault::TxBlock);
     }
     let Some(identity) = Identity::new(sci, tx_block, rx_block) else {

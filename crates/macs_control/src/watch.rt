@@ -59,6 +59,11 @@ impl Sockets {
         ]
     }
 
+    /// Sleeps until the keeper has sent something, for at most a millisecond.
+    pub fn pause(&self) {
+        wait_for(self.keeper, 1);
+    }
+
     /// Sleeps until one of them is readable, for at most this many milliseconds. What has already
     /// arrived ends the sleep at once (POSIX.1-2017, `poll`). If the call fails there is no sleep.
     pub fn sleep(&self, milliseconds: u16) {

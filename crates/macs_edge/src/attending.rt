@@ -8,7 +8,7 @@ ghost use Rattle.macs_edge.specs.Attending.{answers_of, failed_of, rests_after};
 ghost use Rattle.macs_edge.specs.Relaying.{empty_lane, lane_value, relay_of};
 ghost use Rattle.macs_edge.specs.declared.attending.DeskEvent.{DeskEvent};
 
-use crate::relaying::{Lane, RelaySummary, summed, turn, was_quiet};
+use crate::relaying::{Lane, RelaySummary, are_held_up, summed, turn, was_quiet};
 use crate::wire::Wire;
 use macs_config::Command;
 use macs_disk::SectorDisk;
@@ -77,6 +77,12 @@ pub trait Desk<D: SectorDisk, P: Wire, C: Wire> {
     /// Rests after a quiet turn: it may sleep for a bounded time.
     fn rest(&mut self)
         ensures { hears self.old Rested self.new };
+
+    /// Pauses while a frame waits for packet numbers, the disk has not answered, and nothing else
+    /// passes: it may sleep until the disk answers, for at most a millisecond.
+    fn pause(&mut self)
+        ensures { self.new ≡ self.old }
+    {}
 }
 
 /// Carries out a desk's order before a turn, and reports to it. Returns whether a turn follows.
@@ -124,6 +130,15 @@ fn rest<D: SectorDisk, P: Wire, C: Wire, K: Desk<D, P, C>>(desk: &mut K, is_quie
     }
 }
 
+/// Lets a desk pause if frames are held up.
+fn pause<D: SectorDisk, P: Wire, C: Wire, K: Desk<D, P, C>>(desk: &mut K, is_held_up: bool)
+    ensures { desk.new ≡ desk.old }
+{
+    if is_held_up {
+        desk.pause();
+    }
+}
+
 /// Answers the pending commands as failed, in order.
 fn close<D: SectorDisk, P: Wire, C: Wire, K: Desk<D, P, C>>(endpoint: &Endpoint<D>, desk: &mut K)
     ensures { InTurn K.hears desk.old (failed_of endpoint.now.waiting) desk.new }
@@ -167,8 +182,10 @@ fn attend_turns<D: SectorDisk, P: Wire, C: Wire, K: Desk<D, P, C>>(
             &mut out,
         )?;
         is_quiet = was_quiet(&step, out_before, back_before, to_common, to_controlled);
+        let is_held_up = are_held_up(&step, out_before, back_before, to_common, to_controlled);
         tell::<D, P, C, K>(desk, step);
         rest::<D, P, C, K>(desk, is_quiet);
+        pause::<D, P, C, K>(desk, is_held_up);
     }
     Ok(())
 }

@@ -235,3 +235,18 @@ pub(crate) fn was_quiet(
         Some(Step::Worked | Step::Reserved | Step::Done(_, _)) => false,
     }
 }
+
+/// Whether frames are held up after a turn: one waits in a lane, the disk has not answered, and
+/// nothing was counted in the turn.
+pub(crate) fn are_held_up(
+    step: &Option<Step>,
+    out_before: Tally,
+    back_before: Tally,
+    to_common: &Lane,
+    to_controlled: &Lane,
+) -> bool {
+    step.is_none()
+        && (to_common.is_full || to_controlled.is_full)
+        && to_common.tally == out_before
+        && to_controlled.tally == back_before
+}

@@ -20,6 +20,11 @@ pub trait Idle {
     /// Sleeps until there may be something to do, but only for a bounded time.
     fn idle(&mut self)
         ensures { sleeps self.new ≡ with_sleeps (sleeps self.old) 1 };
+
+    /// Sleeps until the disk may have answered, for at most a millisecond.
+    fn pause(&mut self)
+        ensures { self.new ≡ self.old }
+    {}
 }
 
 /// An `Idle` that never sleeps.
@@ -59,6 +64,10 @@ impl<I: Idle, D: SectorDisk, P: Wire, C: Wire> Desk<D, P, C> for Unattended<I> {
 
     fn rest(&mut self) {
         self.idle.idle();
+    }
+
+    fn pause(&mut self) {
+        self.idle.pause();
     }
 }
 

@@ -156,7 +156,7 @@ fn figures_text(alloc: Global, layout: Layout, figures: Figures) -> Result<Strin
 }
 
 /// States that the journal is whole.
-fn whole_line(alloc: Global) -> Result<String, AllocError>
+fn line_of_whole_journal(alloc: Global) -> Result<String, AllocError>
     ensures { IfOk result (λ text. string_bytes text ≡ line (codes "whole")) }
 {
     ended(String::from_str(alloc, "whole")?)
@@ -168,7 +168,7 @@ fn end_text(alloc: Global, config: &Config) -> Result<String, AllocError>
 {
     let text = joined(
         part_line(alloc, "spent rx", config.spent_rx() as u64, SPENT),
-        whole_line(alloc),
+        line_of_whole_journal(alloc),
     );
     joined(
         part_line(alloc, "spent tx", config.spent_tx() as u64, SPENT),

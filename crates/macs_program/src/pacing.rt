@@ -83,4 +83,8 @@ impl Idle for Rest {
             None => {}
         }
     }
+
+    fn pause(&mut self) {
+        self.sockets.pause();
+    }
 }

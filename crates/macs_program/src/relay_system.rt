@@ -42,4 +42,8 @@ impl<T: Clock> Time for RelaySystem<'_, T> {
     fn seconds(&self) -> Option<u64> {
         seconds_now(self.rt)
     }
+
+    fn pause(&self) {
+        self.wires.pause();
+    }
 }

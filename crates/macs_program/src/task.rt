@@ -47,7 +47,7 @@ where
 
 /// Runs a task with the endpoint on a disk.
 #[inline(never)]
-pub fn with_disk<D: SectorDisk, K: Task<D, W>, W: Stream>(
+pub fn with_disk<D: SectorDisk + Drop, K: Task<D, W>, W: Stream>(
     disk: D,
     task: K,
     out: &mut W,
@@ -59,7 +59,7 @@ pub fn with_disk<D: SectorDisk, K: Task<D, W>, W: Stream>(
 
 /// Runs a task with an endpoint, if it was opened.
 #[inline(never)]
-fn with_opened<D: SectorDisk, K: Task<D, W>, W: Stream>(
+fn with_opened<D: SectorDisk + Drop, K: Task<D, W>, W: Stream>(
     mut opened: Result<Endpoint<D>, OpenRefused<D>>,
     task: K,
     out: &mut W,

@@ -230,4 +230,8 @@ impl<
         ensures same { self.new ≡ self.old }
         ensures hears { SpeaksToClients C.does self.old Rested self.new }
     {}
+
+    fn pause(&mut self) {
+        self.system.pause();
+    }
 }

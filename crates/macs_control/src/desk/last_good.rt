@@ -9,7 +9,7 @@ use macs_endpoint::Endpoint;
 use macs_rxsc::{Kind, Verdict};
 use macs_texts::Program;
 
-/// A source of the current time.
+/// A source of the current time, and a pause.
 pub trait Time {
     ghost use Rattle.std.specs.Prelude.{ℕ, Option, None};
     ghost use Rattle.macs_control.specs.Listening.{IsKnown};
@@ -20,6 +20,9 @@ pub trait Time {
     /// Seconds since the beginning of 1970 (UTC), if the clock can be read.
     fn seconds(&self) -> Option<u64>
         ensures { IsKnown (time self.now) result };
+
+    /// Sleeps until the disk may have answered, for at most a millisecond.
+    fn pause(&self) {}
 }
 
 /// How many frames verified since the disk was opened, up to 2^64 - 1.

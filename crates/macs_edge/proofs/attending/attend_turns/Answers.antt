@@ -2,6 +2,7 @@ use Rattle.std.proofs.Common.{[], ◌++◌, arith, inr, refl, ap, sym, subst}
 use Rattle.std.proofs.lemmas.Result.{err_from_is_err_and}
 use Rattle.macs_edge.specs.Attending.{TakesAllAttended, answers_of, rests_after}
 use Rattle.macs_edge.specs.Relaying.{lane_value, relay_of}
+use Rattle.macs_commands.specs.InTurn.{InTurn}
 use Rattle.macs_commands.proofs.InTurns.{and-then}
 use Rattle.macs_edge.proofs.Attended.{attended-more, obeys-end}
 use Rattle.macs_edge.proofs.attending.attend_turns.Goals as goal
@@ -75,10 +76,12 @@ loop-preserved g c =
             c.was_quiet-is_quiet.result c.in_ok-step.step
             c.loop.invariant.1.1 (before, c.obey.new.endpoint, c.if-not-obey.ensures.1, c.in_ok-step.ensures, refl)
             c.was_quiet-is_quiet.ensures,
-        heard c.args.desk.now c.tell.new.desk c.rest.new.desk (earlier ++ (before ++ told))
+        subst (λ (k : _). InTurn g.K.Desk.hears c.args.desk.now
+            (earlier ++ (before ++ told) ++ rests_after c.was_quiet-is_quiet.result) k) (sym c.pause.ensures)
+            (heard c.args.desk.now c.tell.new.desk c.rest.new.desk (earlier ++ (before ++ told))
             (rests_after c.was_quiet-is_quiet.result)
             (heard c.args.desk.now c.loop.desk c.tell.new.desk earlier (before ++ told) c.loop.invariant.1.2
             (heard c.loop.desk c.obey.new.desk c.tell.new.desk before told c.if-not-obey.ensures.2 c.tell.ensures))
-            c.rest.ensures,
+            c.rest.ensures),
       ),
     )
