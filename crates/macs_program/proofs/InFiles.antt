@@ -52,7 +52,7 @@ module _ {D W : Type 0} (disk_of : D → Disk) (done : Doing D W) (before : W) (
     left = refused.disk;
     fault = refused.fault;
     refuses = subst (λ (r : Result (EndpointValue D) (RecoverRefused D)). IsOpening disk_of disk r) is opening;
-    is = ap (λ (f : Failure). Err {T = Status} f) same;
+    is = ap (λ (f : Failure). Err f) same;
     silent = refl;
   })
 

@@ -1,5 +1,6 @@
 pub mod Acted
 pub mod AskedFor
+pub mod ByKeepers
 pub mod Captured
 pub mod Codes
 pub mod Complaining

@@ -1,5 +1,6 @@
 -- A relay over the disk of a keeper.
-use Rattle.std.specs.Prelude.{◌≡◌, ◌⊎◌, ℕ, Bor, List, Option, None, Some, Ok}
+use Rattle.std.specs.Prelude.{◌≡◌, ◌⊎◌, ℕ, List, Option, None, Some, Ok}
+use Rattle.std.specs.Borrow.{Bor}
 use Rattle.macs_disk.specs.Files.{FileState}
 use Rattle.macs_control.specs.KeptDisks.{KeptDiskValue, kept_disk}
 use Rattle.macs_edge.specs.Relaying.{empty_lane, relay_of}

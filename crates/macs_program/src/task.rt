@@ -65,7 +65,7 @@ fn with_opened<D: SectorDisk + Drop, K: Task<D, W>, W: Stream>(
     out: &mut W,
 ) -> Result<Status, Failure>
     requires { (disk : _) × IsOpening D.disk disk opened }
-    ensures { (disk : _) → IsOpening D.disk disk opened.entry
+    ensures { (disk : _) → IsOpening D.disk disk opened
         → IsRunOn D.disk (K.does task) disk out.old result out.new }
 {
     match &mut opened {
