@@ -6,8 +6,9 @@ mod keeper;
 
 use macs_control::keeping::Waits;
 use macs_control::{Connection, Taken};
-use std::alloc::{AllocError, Global};
+use std::alloc::Global;
 use std::cell::RefCell;
+use std::process::Abort;
 
 /// A message: its first octet, the last octet of a number of 8, if it has one, and the octet that
 /// its sector is full of.
@@ -58,27 +59,34 @@ impl Waits for Played<'_> {
 }
 
 /// Appends a message.
-fn put(into: &mut Vec<u8>, message: Message) -> Result<(), AllocError> {
-    let (kind, number, octet) = message;
-    into.push(kind)?;
+fn put(rt: &impl Abort, into: &mut Vec<u8>, message: &Message) {
+    let (kind, number, octet) = *message;
+    into.push(kind).expect(rt, "memory");
     if let Some(last) = number {
-        into.extend_from_slice(&[0, 0, 0, 0, 0, 0, 0, last])?;
+        let number = [0, 0, 0, 0, 0, 0, 0, last];
+        into.extend_from_slice(&number).expect(rt, "memory");
     }
-    into.extend_from_slice(&[octet; 512])?;
-    Ok(())
+    into.extend_from_slice(&[octet; 512]).expect(rt, "memory");
 }
 
-/// A greeting, if it says how many sectors there are, and messages.
-fn octets(alloc: Global, sectors: Option<u8>, messages: &[Message]) -> Result<Vec<u8>, AllocError> {
+/// Messages, one after another.
+fn octets(rt: &impl Abort, alloc: Global, messages: &[Message]) -> Vec<u8> {
     let mut all = Vec::new(alloc);
-    if let Some(sectors) = sectors {
-        all.extend_from_slice(b"MSECKEEP")?;
-        all.extend_from_slice(&[0, 0, 0, 0, 0, 0, 0, sectors])?;
-    }
     for message in messages {
-        put(&mut all, *message)?;
+        put(rt, &mut all, message);
     }
-    Ok(all)
+    all
+}
+
+/// The greeting of a keeper of four sectors, and messages.
+fn greeted(rt: &impl Abort, alloc: Global, messages: &[Message]) -> Vec<u8> {
+    let mut all = Vec::new(alloc);
+    let greeting = b"MSECKEEP\0\0\0\0\0\0\0\x04";
+    all.extend_from_slice(greeting).expect(rt, "memory");
+    for message in messages {
+        put(rt, &mut all, message);
+    }
+    all
 }
 
 /// Whether a connection took exactly these octets.

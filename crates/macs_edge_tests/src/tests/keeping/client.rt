@@ -1,13 +1,12 @@
 //! A disk whose keeper is played.
 
-use super::{Message, Played, octets, took};
+use super::{Message, Played, greeted, octets, took};
 use macs_control::Taken;
 use macs_control::keeping::KeptDisk;
 use macs_disk::{DeviceCall, DeviceFault, SectorDisk};
 use std::alloc::Global;
 use std::cell::RefCell;
 use std::process::Abort;
-use std::test::Fail;
 
 /// Which call a client makes: it writes 7 to sector 1, syncs, or reads sector 2 or 3.
 #[derive(Clone, Copy)]
@@ -70,7 +69,7 @@ const WELL: Told = Told {
 };
 
 /// An answer comes in two parts: the first look finds nothing.
-const DONE_CALLS: [Told; 3] = [
+const DONE_CALLS: &[Told] = &[
     WELL,
     Told {
         turns: &[
@@ -97,7 +96,7 @@ const DONE_CALLS: [Told; 3] = [
 ];
 
 /// Another call comes while one waits for its answer.
-const OTHER_CALLS: [Told; 3] = [
+const OTHER_CALLS: &[Told] = &[
     Told {
         turns: &[
             (Call::Sync, Way::Tries, Found::Nothing),
@@ -141,7 +140,7 @@ const FAILED: Told = Told {
     ..WELL
 };
 
-const FAILED_CALLS: [Told; 8] = [
+const FAILED_CALLS: &[Told] = &[
     FAILED,
     Told {
         answers: &[DONE, (4, None, 0), SECTOR],
@@ -177,7 +176,7 @@ const FAILED_CALLS: [Told; 8] = [
 ];
 
 /// The same where it looks once at a time.
-const FAILED_TRIES: [Told; 5] = [
+const FAILED_TRIES: &[Told] = &[
     Told {
         answers: &[(3, None, 0), DONE],
         turns: &[
@@ -250,7 +249,7 @@ fn outcome(answer: Option<Result<(), DeviceFault>>, octet: u8) -> Found {
 }
 
 /// Makes one call.
-fn make<D: SectorDisk>(rt: &impl Abort, disk: &mut D, call: Call, way: Way) -> Found {
+fn make(rt: &impl Abort, disk: &mut KeptDisk<Played>, call: Call, way: Way) -> Found {
     let call = device_call(call);
     assert!(rt; call.is_within(disk.sectors()));
     let mut read = [9; 512];
@@ -261,9 +260,22 @@ fn make<D: SectorDisk>(rt: &impl Abort, disk: &mut D, call: Call, way: Way) -> F
     outcome(answer, read[511])
 }
 
-/// Opens the disk, plays the turns, and compares what was asked for.
-fn play(rt: &impl Abort, alloc: Global, told: &Told) -> Result<(), Fail> {
-    let coming = octets(alloc, Some(4), told.answers)?;
+/// Takes the turns, and compares what is found.
+fn take_turns(rt: &impl Abort, disk: &mut KeptDisk<Played>, turns: &[(Call, Way, Found)]) {
+    for i in 0..turns.len() {
+        let (call, way, wanted) = turns[i];
+        let found = make(rt, disk, call, way);
+        let has_failed = disk.is_stopped();
+        assert!(rt;
+            found == wanted && has_failed == (wanted == Found::Failed),
+            "turn {i}"
+        );
+    }
+}
+
+/// Opens the disk, takes the turns, and compares what was asked for.
+fn play(rt: &impl Abort, alloc: Global, told: &Told) {
+    let coming = greeted(rt, alloc, told.answers);
     let taken = RefCell::new(Vec::new(alloc));
     let keeper = Played {
         coming: coming.as_slice(),
@@ -273,40 +285,31 @@ fn play(rt: &impl Abort, alloc: Global, told: &Told) -> Result<(), Fail> {
         taken: &taken,
     };
     let mut disk = KeptDisk::open(keeper).expect(rt, "a greeting");
-    for i in 0..told.turns.len() {
-        let (call, way, wanted) = told.turns[i];
-        assert!(rt; make(rt, &mut disk, call, way) == wanted, "turn {i}");
-        assert!(rt; disk.is_stopped() == (wanted == Found::Failed), "turn {i}");
+    take_turns(rt, &mut disk, told.turns);
+    assert!(rt; took(&taken, octets(rt, alloc, told.asked).as_slice()));
+}
+
+/// Plays each of them.
+fn play_all(rt: &impl Abort, alloc: Global, all: &[Told]) {
+    for told in all {
+        play(rt, alloc, told);
     }
-    assert!(rt; took(&taken, octets(alloc, None, told.asked)?.as_slice()));
-    Ok(())
 }
 
 #[test]
-fn a_client_asks_once_and_looks_until_the_answer_is_there(rt: HostRuntime) -> Result<(), Fail> {
-    for told in DONE_CALLS {
-        play(&rt, rt.alloc(), &told)?;
-    }
-    Ok(())
+fn a_client_asks_once_and_looks_until_the_answer_is_there(rt: HostRuntime) {
+    play_all(&rt, rt.alloc(), DONE_CALLS);
 }
 
 #[test]
-fn another_call_than_the_one_under_way_fails(rt: HostRuntime) -> Result<(), Fail> {
-    for told in OTHER_CALLS {
-        play(&rt, rt.alloc(), &told)?;
-    }
-    Ok(())
+fn another_call_than_the_one_under_way_fails(rt: HostRuntime) {
+    play_all(&rt, rt.alloc(), OTHER_CALLS);
 }
 
 #[test]
-fn a_client_stops_where_a_call_fails(rt: HostRuntime) -> Result<(), Fail> {
-    for told in FAILED_CALLS {
-        play(&rt, rt.alloc(), &told)?;
-    }
-    for told in FAILED_TRIES {
-        play(&rt, rt.alloc(), &told)?;
-    }
-    Ok(())
+fn a_client_stops_where_a_call_fails(rt: HostRuntime) {
+    play_all(&rt, rt.alloc(), FAILED_CALLS);
+    play_all(&rt, rt.alloc(), FAILED_TRIES);
 }
 
 /// Opens the disk of a keeper whose greeting is these octets.

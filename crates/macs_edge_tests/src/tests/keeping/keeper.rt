@@ -1,13 +1,12 @@
 //! A keeper, whose client is played.
 
-use super::{Message, Played, octets, took};
+use super::{Message, Played, greeted, octets, took};
 use macs_control::Taken;
 use macs_control::keeping::{KeepEnd, keep_for};
 use macs_disk::{Fuse, MemDisk};
 use std::alloc::Global;
 use std::cell::RefCell;
 use std::process::Abort;
-use std::test::Fail;
 
 /// A client's requests, how many octets it sends after them, what follows, how many messages it
 /// takes, how many calls of its four sectors are done; and what ends that, and the answers.
@@ -41,7 +40,7 @@ const WELL: Kept = Kept {
 /// The first two of these.
 const TWO: &[Message] = &[(2, None, 0), (2, None, 0)];
 
-const KEPT: [Kept; 10] = [
+const KEPT: &[Kept] = &[
     WELL,
     Kept { rest: 520, ..WELL },
     Kept {
@@ -89,12 +88,38 @@ const KEPT: [Kept; 10] = [
     },
 ];
 
-/// Keeps a disk of four sectors for a client. The greeting is sent only if there is room.
-fn keep(rt: &impl Abort, alloc: Global, kept: &Kept, most: usize) -> Result<(), Fail> {
-    let mut coming = octets(alloc, None, kept.asked)?;
+/// What a client sends.
+fn coming(rt: &impl Abort, alloc: Global, kept: &Kept) -> Vec<u8> {
+    let mut coming = octets(rt, alloc, kept.asked);
     for _ in 0..kept.rest {
-        coming.push(0)?;
+        coming.push(0).expect(rt, "memory");
     }
+    coming
+}
+
+/// What a client gets: nothing if it takes no greeting.
+fn wanted(rt: &impl Abort, alloc: Global, kept: &Kept) -> Vec<u8> {
+    if kept.room == 0 {
+        Vec::new(alloc)
+    } else {
+        greeted(rt, alloc, kept.answers)
+    }
+}
+
+/// A disk of four sectors, of which so many calls are done.
+fn disk(rt: &impl Abort, alloc: Global, done: u64) -> Fuse<MemDisk> {
+    Fuse::new(MemDisk::new(alloc, 4).ok().expect(rt, "a disk"), done)
+}
+
+/// What ends the work for a client.
+fn end(rt: &impl Abort, alloc: Global, done: u64, client: &mut Played) -> KeepEnd {
+    let mut disk = disk(rt, alloc, done);
+    keep_for(&mut disk, client)
+}
+
+/// Keeps a disk for a client that sends at most `most` octets at a time.
+fn keep(rt: &impl Abort, alloc: Global, kept: &Kept, most: usize) {
+    let coming = coming(rt, alloc, kept);
     let taken = RefCell::new(Vec::new(alloc));
     let mut client = Played {
         coming: coming.as_slice(),
@@ -103,22 +128,14 @@ fn keep(rt: &impl Abort, alloc: Global, kept: &Kept, most: usize) -> Result<(), 
         room: kept.room,
         taken: &taken,
     };
-    let mut disk = Fuse::new(MemDisk::new(alloc, 4)?, kept.done);
-    assert!(rt; keep_for(&mut disk, &mut client) == kept.end);
-    let wanted = if kept.room == 0 {
-        Vec::new(alloc)
-    } else {
-        octets(alloc, Some(4), kept.answers)?
-    };
-    assert!(rt; took(&taken, wanted.as_slice()));
-    Ok(())
+    assert!(rt; end(rt, alloc, kept.done, &mut client) == kept.end);
+    assert!(rt; took(&taken, wanted(rt, alloc, kept).as_slice()));
 }
 
 #[test]
-fn a_keeper_makes_each_call_and_answers_it(rt: HostRuntime) -> Result<(), Fail> {
+fn a_keeper_makes_each_call_and_answers_it(rt: HostRuntime) {
     for kept in KEPT {
-        keep(&rt, rt.alloc(), &kept, 1_000)?;
-        keep(&rt, rt.alloc(), &kept, 100)?;
+        keep(&rt, rt.alloc(), kept, 1_000);
+        keep(&rt, rt.alloc(), kept, 100);
     }
-    Ok(())
 }
