@@ -1,7 +1,8 @@
-"""Wrong bodies as copies of functions, many in one check: a copy stands beside its function under another name, with a copy of its proof's answers.
+"""Wrong bodies as copies of functions, many in one check.
 
-Nothing calls a copy, so no proof waits for another one. In each check stands beside the wrong ones a copy of each function that nothing changes: only where
-that one is proved do the others say anything. A function of a trait, or of an impl of one, can have no copy.
+A copy of the function stands beside it under another name, with a copy of its proof's answers. Nothing calls a copy, so no proof waits for
+another one. The same check has a copy of each function that nothing changes: where that one is not proved, the others show nothing. A
+function of a trait, or of an impl of one, can have no copy.
 """
 import os
 import re
@@ -11,11 +12,15 @@ from typing import NamedTuple
 import edits
 
 FN = re.compile(r"^( *)(?:(?:pub(?:\([^)]*\))?|const|unsafe|ghost|default) )*(?:extern \"C\" )?fn (\w+)")
+# A comment or an attribute before one.
+BEFORE = re.compile(r" *(?://|#\[)")
 BLOCK = re.compile(r"(?:pub )?(?:unsafe )?(?:impl|trait|mod)\b")
 TYPE = re.compile(r"(?:unsafe )?impl(?:<.*?>)? (\w+)")
-# What a check says of a function, of an error in the answers of one, and of a goal at which a search gave up; the goals that a search left.
+# What a check says of a function, of an error in the answers of one or in a lemma, and of a goal at which a search gave up; and the goals
+# that a search left.
 SAID = re.compile(r"^fn (\S+): (.*)$")
 ANSWERS = re.compile(r"^(?:\./)?proofs/(\S+)/(?:Answers|Invariants|Proof)\.antt:\d+:\d+: error: (.*)$", re.M)
+LEMMAS = re.compile(r"^(?:\./)?(proofs/\S+): error: (.*)$", re.M)
 GAVE_UP = re.compile(r"^note: .*\(`([^`]+)`\); `search` gave up at one of its limits")
 LEFT = re.compile(r"`search` did not prove ((?:`[^`]+`(?:, | and )?)+)")
 # Errors of a name that is gone, and those that another error brings with it.
@@ -23,7 +28,8 @@ GONE = re.compile(r"has no field|is not in scope|has no `|is no name")
 FOLLOWS = re.compile(r"\d+ declarations? that depends? on `")
 # Where the front end finds an error.
 FRONT = re.compile(r"^(?:(?:\./)?(src/\S+?):(\d+):\d+: error| *--> (?:\./)?(src/\S+?):(\d+):\d+)", re.M)
-# How a wrong body falls, the surest first: at a goal that search left open; where an answer no longer fits; at a goal where search gave up; by a gone name.
+# How a wrong body falls, the surest first: at a goal that search left open, where an answer no longer fits, at a goal where search gave up,
+# or by a gone name.
 HOWS = ("clause", "answer", "search", "gone")
 
 
@@ -52,8 +58,8 @@ def function_at(path, text, number):
     for first in range(number, -1, -1):
         found = FN.match(lines[first])
         if found:
-            ends = (at for at in range(first, len(lines)) if lines[at].rstrip() == f"{found[1]}}}" or at == first and lines[at].endswith("}"))
-            last = next(ends, -1)
+            is_short = lines[first].endswith("}")
+            last = first if is_short else next((at for at in range(first, len(lines)) if lines[at].rstrip() == f"{found[1]}}}"), -1)
             return Function(path, first, last + 1, found[2]) if number <= last else None
     return None
 
@@ -92,7 +98,7 @@ class Copy:
         if block and (not owner or " for " in block):
             raise edits.Unfit("it is in a trait, an impl of one or a module")
         top = function.first
-        while top and lines[top - 1].strip() and (lines[top - 1].lstrip().startswith("#[") or not lines[top - 1].rstrip().endswith(("}", ";", "{"))):
+        while top and BEFORE.match(lines[top - 1]):
             top -= 1
         text = "\n".join(lines[top : function.last])
         for path, old, new in edits.groups_of(edit):
@@ -111,9 +117,10 @@ class Copy:
     def lay_answers(self, room):
         """Copies the answers, which name their own folder."""
         for folder in self.answers:
-            dots = re.escape(folder.replace("/", "."))
-            names = re.compile(rf"(\bRattle\.\w+\.(?:proofs|specs\.contracts)\.{dots.removesuffix(self.function.name)}){self.function.name}(?=\.)")
-            copy = f"{room}/proofs/{folder.removesuffix(self.function.name)}{self.name}"
+            above = folder.removesuffix(self.function.name)
+            dots = re.escape(above.replace("/", "."))
+            names = re.compile(rf"(\bRattle\.\w+\.(?:proofs|specs\.contracts)\.{dots}){self.function.name}(?=\.)")
+            copy = f"{room}/proofs/{above}{self.name}"
             shutil.copytree(f"{room}/proofs/{folder}", copy)
             for file in os.listdir(copy):
                 write(f"{copy}/{file}", names.sub(rf"\g<1>{self.name}", text_of(f"{copy}/{file}")))
@@ -175,6 +182,13 @@ def surest(found):
     fallen = [(HOWS.index(how), f"{function}: {at}") for function, (how, at) in found.items() if how in HOWS]
     rank, at = min(fallen, default=(0, ""))
     return (HOWS[rank], at) if fallen else None
+
+
+def lemmas(said):
+    """How lemmas of the proofs fell, where no function did."""
+    errors = [f"{at}: {error[:200]}" for at, error in LEMMAS.findall(said) if not FOLLOWS.search(error)]
+    unfit = [it for it in errors if not GONE.search(it)]
+    return ("answer", unfit[0]) if unfit else ("gone", errors[0]) if errors else None
 
 
 def verdict_on(name, found):
