@@ -1,8 +1,8 @@
 """Wrong bodies as copies of functions, many in one check.
 
-A copy of the function stands beside it under another name, with a copy of its proof's answers. Nothing calls a copy, so no proof waits for
-another one. The same check has a copy of each function that nothing changes: where that one is not proved, the others show nothing. A
-function of a trait, or of an impl of one, can have no copy.
+A copy of the function stands beside it under another name, with a copy of its proof's answers. Nothing calls a copy, so no proof waits
+for another one. For each function that has answers the same check has a copy that nothing changes: where that one is not proved, the
+others show nothing. A function of a trait, or of an impl of one, can have no copy.
 """
 import os
 import re
@@ -88,7 +88,7 @@ def module_of(path):
 
 
 class Copy:
-    """A copy of a function as an edit changes it, or without one as it is: its name and text, and the folders of the function's answers."""
+    """A copy of a function as an edit changes it, or without one as it is: its name and text, and the folders of its answers."""
 
     def __init__(self, crate, function, name, edit=""):
         self.crate, self.function, self.name = crate, function, name
@@ -104,15 +104,17 @@ class Copy:
         for path, old, new in edits.groups_of(edit):
             text = edits.replaced(text, old, new, path)
         self.text = re.sub(rf"^(?! *//)(.*?\bfn ){function.name}\b", rf"\1{name}", text, count=1, flags=re.M)
+        # All folders of its name, in case the answers are found in none that it should have.
+        proofs = f"{crate}/proofs"
+        self.named = [it[len(proofs) + 1 :] for it, _, _ in os.walk(proofs) if os.path.basename(it) == function.name]
         self.answers = self.folders(owner and owner[1])
 
     def folders(self, owner):
         """Those of its type, wherever the type is, or of its module."""
         module = module_of(self.function.path).replace("::", "/")
         end = f"/{owner}/{self.function.name}" if owner else f"/{module}/{self.function.name}".replace("//", "/")
-        proofs = f"{self.crate}/proofs"
-        found = [it for at, _, _ in os.walk(proofs) for it in [at.removeprefix(proofs)] if it == end or owner and it.endswith(end)]
-        return [it[1:] for it in found if it.startswith(f"/{module}/")] or [it[1:] for it in found]
+        found = [it for it in self.named if f"/{it}" == end or owner and f"/{it}".endswith(end)]
+        return [it for it in found if it.startswith(f"{module}/")] or found
 
     def lay_answers(self, room):
         """Copies the answers, which name their own folder."""
