@@ -8,6 +8,9 @@ import os
 import re
 
 
+LINES = ("file: ", "old: ", "new:", "more: ", "--")
+
+
 class Unfit(Exception):
     """An edit that cannot be applied, or that shows nothing."""
 
@@ -21,8 +24,10 @@ def edits_of(folder, kind, word=""):
         before, *parts = re.split(r"^== (.*)\n", file.read(), flags=re.M)
     names = parts[::2]
     twice = {it for it in names if names.count(it) > 1}
-    if before or twice:
-        raise SystemExit(f"{path}: {'it has two edits ' + twice.pop() if twice else 'it does not begin with an edit'}")
+    strange = [it for text in parts[1::2] for it in text.split("\n") if it and not it.startswith(LINES)]
+    if before or twice or strange:
+        wrong = f"it has two edits {twice.pop()}" if twice else f"no line of an edit: {strange[0]}" if strange else "it does not begin with an edit"
+        raise SystemExit(f"{path}: {wrong}")
     return {name: text.rstrip("\n") + "\n" for name, text in zip(names, parts[1::2]) if word in name}
 
 
