@@ -8,7 +8,8 @@ import os
 import re
 
 
-LINES = ("file: ", "old: ", "new:", "more: ", "--")
+# What a line of an edit begins with.
+LINES = ("file: ", "old: ", "new:", "more:", "--")
 
 
 class Unfit(Exception):
@@ -41,8 +42,8 @@ def groups_of(edit):
             old = line.removeprefix("old: ")
         elif line.startswith("new:"):
             groups.append([path, old, line.removeprefix("new:").removeprefix(" ")])
-        elif line.startswith("more: "):
-            groups[-1][2] += "\n" + line.removeprefix("more: ")
+        elif line.startswith("more:"):
+            groups[-1][2] += "\n" + line.removeprefix("more:").removeprefix(" ")
     return groups
 
 
