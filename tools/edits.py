@@ -1,8 +1,8 @@
 """The edits of a crate: crates/NAME/wrong-bodies.edits, tested-bodies.edits and wrong-definitions.edits.
 
-A line '== NAME' begins an edit, and a blank line ends it. Between them are lines 'file: PATH' (from the crate's folder), and for each file pairs of lines
-'old: TEXT' and 'new: TEXT'. A line 'more: TEXT' adds a line to the new text. A line that begins with '--' is a comment. Edits are sorted by the file that they
-change, then by name.
+A line '== NAME' begins an edit, and a blank line ends it. Between them are lines 'file: PATH' (from the crate's folder), and for each file
+pairs of lines 'old: TEXT' and 'new: TEXT'. A line 'more: TEXT' adds a line to the new text. A line that begins with '--' is a comment. Edits
+are sorted by the file that they change, then by name.
 """
 import os
 import re
@@ -27,8 +27,8 @@ def edits_of(folder, kind, word=""):
     twice = {it for it in names if names.count(it) > 1}
     strange = [it for text in parts[1::2] for it in text.split("\n") if it and not it.startswith(LINES)]
     if before or twice or strange:
-        wrong = f"it has two edits {twice.pop()}" if twice else f"no line of an edit: {strange[0]}" if strange else "it does not begin with an edit"
-        raise SystemExit(f"{path}: {wrong}")
+        wrong = f"no line of an edit: {strange[0]}" if strange else "it does not begin with an edit"
+        raise SystemExit(f"{path}: {f'it has two edits {twice.pop()}' if twice else wrong}")
     return {name: text.rstrip("\n") + "\n" for name, text in zip(names, parts[1::2]) if word in name}
 
 
