@@ -1,11 +1,15 @@
 """The edits of a crate: crates/NAME/wrong-bodies.edits, tested-bodies.edits and wrong-definitions.edits.
 
-A line '== NAME' begins an edit, and a blank line ends it. Between them are lines 'file: PATH' (from the crate's folder), and for each file pairs of lines
-'old: TEXT' and 'new: TEXT'. A line 'more: TEXT' adds a line to the new text. A line that begins with '--' is a comment. Edits are sorted by the file that they
-change, then by name.
+A line '== NAME' begins an edit, and a blank line ends it. Between them are lines 'file: PATH' (from the crate's folder), and for each file
+pairs of lines 'old: TEXT' and 'new: TEXT'. A line 'more: TEXT' adds a line to the new text. A line that begins with '--' is a comment. Edits
+are sorted by the file that they change, then by name.
 """
 import os
 import re
+
+
+# What a line of an edit begins with.
+LINES = ("file: ", "old: ", "new:", "more:", "--")
 
 
 class Unfit(Exception):
@@ -21,8 +25,10 @@ def edits_of(folder, kind, word=""):
         before, *parts = re.split(r"^== (.*)\n", file.read(), flags=re.M)
     names = parts[::2]
     twice = {it for it in names if names.count(it) > 1}
-    if before or twice:
-        raise SystemExit(f"{path}: {'it has two edits ' + twice.pop() if twice else 'it does not begin with an edit'}")
+    strange = [it for text in parts[1::2] for it in text.split("\n") if it and not it.startswith(LINES)]
+    if before or twice or strange:
+        wrong = f"no line of an edit: {strange[0]}" if strange else "it does not begin with an edit"
+        raise SystemExit(f"{path}: {f'it has two edits {twice.pop()}' if twice else wrong}")
     return {name: text.rstrip("\n") + "\n" for name, text in zip(names, parts[1::2]) if word in name}
 
 
@@ -36,8 +42,8 @@ def groups_of(edit):
             old = line.removeprefix("old: ")
         elif line.startswith("new:"):
             groups.append([path, old, line.removeprefix("new:").removeprefix(" ")])
-        elif line.startswith("more: "):
-            groups[-1][2] += "\n" + line.removeprefix("more: ")
+        elif line.startswith("more:"):
+            groups[-1][2] += "\n" + line.removeprefix("more:").removeprefix(" ")
     return groups
 
 
