@@ -1,8 +1,8 @@
 """The edits of a crate: crates/NAME/wrong-bodies.edits, tested-bodies.edits and wrong-definitions.edits.
 
 A line '== NAME' begins an edit, and a blank line ends it. Between them are lines 'file: PATH' (from the crate's folder), and for each file
-pairs of lines 'old: TEXT' and 'new: TEXT'. A line 'more: TEXT' adds a line to the new text. A line that begins with '--' is a comment. Edits
-are sorted by the file that they change, then by name.
+pairs of lines 'old: TEXT' and 'new: TEXT'. A line 'more: TEXT' adds a line to the new text. A line that begins with '--' is a comment.
+Edits are sorted by the file that they change, then by name.
 """
 import os
 import re
