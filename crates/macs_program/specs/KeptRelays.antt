@@ -31,7 +31,7 @@ pub record ComesToKept (course : Course) (summary : RelaySummary) : Type 0 where
   pub relayed : IsRun kept_disk course (relay_of old new_wire new_wire empty_lane empty_lane) (Ok summary) new
       controlled common
 
--- no endpoint is opened: no keeper greets, or its disk is refused
+-- the disk of a keeper is refused
 pub record IsRefusedByKeeper (failure : Failure) : Type 0 where
   pub disk : KeptDiskValue
   pub left : KeptDiskValue
@@ -39,6 +39,7 @@ pub record IsRefusedByKeeper (failure : Failure) : Type 0 where
   pub refuses : RefusesOpening kept_disk disk left fault
   pub is : failure ≡ failure_of_journal fault
 
+-- no endpoint is opened: no keeper greets, or its disk is refused
 abbrev pub KeepingFails : Failure → Type 0
 KeepingFails failure = (failure ≡ failure_of_journal Disk) ⊎ IsRefusedByKeeper failure
 
