@@ -48,6 +48,5 @@ pub mod ExampleStates
 pub mod ExampleFits
 pub mod ExampleHistory
 pub mod ExampleMigration
-pub mod ExampleBeginning
 mod DiskFiles
 pub mod PlayedLosses

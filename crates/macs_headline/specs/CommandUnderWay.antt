@@ -1,14 +1,16 @@
 -- The headline on the command under way: when work on it may have begun, and that it is accepted.
-use Rattle.std.specs.Prelude.{◌≡◌, ◌⊎◌, ℕ, false, List, [], Option, Some, None}
+use Rattle.std.specs.Prelude.{◌≡◌, ◌⊎◌, false, List, [], Option, Some, None}
+use Rattle.macs_config.specs.Apply.{Reason, refusal_of}
 use Rattle.macs_config.specs.declared.command.Command.{Command}
 use Rattle.macs_endpoint.specs.Queue.{first_command}
 use Rattle.macs_endpoint.specs.State.{Advances, Call, Commands, State}
 use Rattle.macs_endpoint.specs.Step.{Exchange}
 use Rattle.macs_endpoint.specs.declared.queue.Waiting.{Waiting}
 use Rattle.macs_headline.specs.Commands.{waiting_at_end}
-use Rattle.macs_headline.specs.History.{state_at_end}
-use Rattle.macs_headline.specs.Moments.{Moment}
-use Rattle.macs_headline.specs.Refused.{refusal_at}
+
+-- the first reason to refuse a command in this state, if there is one
+abbrev pub refusal_at : State → Command → Option Reason
+refusal_at s command = refusal_of s.edition s.identity s.config command
 
 -- Work on the command may begin in this call, with these pending: in a step, on the first of them; and in `command`, on
 -- the one that it is given, if none is pending. In no other call.
@@ -23,8 +25,3 @@ pub record WasBegun (exchanges : List Exchange) (last : State) (cut : Option Cal
   pub begun : (last.under_way ≡ Some command)
       ⊎ ((last.stopped ≡ false) × MayBegin cut (waiting_at_end exchanges) command)
   pub accepted : refusal_at last command ≡ None
-
--- this holds of what is under way at any moment at which a life ends, inside a call or not
-abbrev pub UnderWayWasBegun : ℕ → Type 0
-UnderWayWasBegun sectors = (last : State) (m : Moment sectors last) (cut : Option Call) (command : Command)
-    → (state_at_end last cut).under_way ≡ Some command → WasBegun m.exchanges last cut command

@@ -6,9 +6,6 @@ pub mod Configurations
 pub mod Answered
 pub mod Frames
 pub mod Deliveries
-pub mod Windows
-pub mod Changing
-pub mod Refused
 pub mod CommandUnderWay
 pub mod Openings
 pub mod Formats

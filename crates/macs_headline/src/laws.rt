@@ -25,9 +25,8 @@ ghost use Rattle.macs_headline.specs.Binding.{NewDeedsAreHistories, OpeningsMigr
 ghost use Rattle.macs_headline.specs.Binding.{NewDisksHaveHistories, OpeningsFind};
 ghost use Rattle.macs_headline.specs.Binding.{PassedOnHaveHistories, RefusalsAreFailures};
 ghost use Rattle.macs_headline.specs.Binding.{SettledHaveHistories};
-ghost use Rattle.macs_headline.specs.Changing.{IsFirstConfiguration};
 ghost use Rattle.macs_headline.specs.Commands.{CommandsKept, FindsOne, UnderWayWasGiven};
-ghost use Rattle.macs_headline.specs.Configurations.{ConfigurationIs};
+ghost use Rattle.macs_headline.specs.Configurations.{ConfigurationIs, IsFirstConfiguration};
 ghost use Rattle.macs_headline.specs.Deliveries.{DeliveredBelow, DeliveriesAreVerified, GivenOnce};
 ghost use Rattle.macs_headline.specs.Deliveries.{NeverOkAgain, OthersAreBare};
 ghost use Rattle.macs_headline.specs.Endings.{DroppedPassOn, ImagesAreWhole};
