@@ -7,6 +7,4 @@ pub mod Lengths
 pub mod Commands
 pub mod Fingerprints
 pub mod Fields
-pub mod HeadVersions
 pub mod OneHead
-pub mod DecodedHead
