@@ -11,7 +11,6 @@ pub mod AppendCalls
 pub mod Holding
 pub mod OpenGates
 pub mod HeadOpened
-pub mod Blank
 pub mod Closing
 pub mod NewArea
 pub mod Compacting
@@ -25,7 +24,6 @@ pub mod Tasks
 pub mod Steps
 pub mod Advancing
 pub mod Recovering
-pub mod Holes
 pub mod Looks
 pub mod Faults
 pub mod OnlyReads
