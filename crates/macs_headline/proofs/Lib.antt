@@ -19,7 +19,6 @@ pub mod Commands
 pub mod FoundOnce
 pub mod HandedIn
 pub mod FramesRead
-pub mod ShortLengths
 pub mod Ranges
 pub mod Deliveries
 pub mod CommandUnderWay

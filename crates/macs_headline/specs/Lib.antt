@@ -8,13 +8,11 @@ pub mod Frames
 pub mod Deliveries
 pub mod CommandUnderWay
 pub mod Openings
-pub mod Formats
 pub mod Deeds
 pub mod Endings
 pub mod Binding
 pub mod Images
 pub mod Example
-pub mod ExampleStanding
 pub mod ExampleDisk
 pub mod ExampleCuts
 pub mod ExampleLives

@@ -36,7 +36,7 @@ ghost use Rattle.macs_headline.specs.Endings.{ReadsPassOn, SyncsPassOn};
 ghost use Rattle.macs_headline.specs.Endings.{WrittenBackPassOn};
 ghost use Rattle.macs_headline.specs.ExampleLives.{IsWorkedHistory};
 ghost use Rattle.macs_headline.specs.ExampleMigration.{IsWorkedMigration};
-ghost use Rattle.macs_headline.specs.Formats.{FormatsOnce, RefusedByHistory};
+ghost use Rattle.macs_headline.specs.Openings.{FormatsOnce, RefusedByHistory};
 ghost use Rattle.macs_headline.specs.Frames.{FramesAreStandard, WrittenBelow, WrittenOnce};
 ghost use Rattle.macs_headline.specs.Numbers.{BeginAsAsked, GivenApart, GivenBelow};
 ghost use Rattle.macs_headline.specs.Numbers.{NothingForgotten, OkApart, SkipsFew};
