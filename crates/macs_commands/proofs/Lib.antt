@@ -3,7 +3,6 @@ pub mod Reading
 mod KeyDigits
 mod FileText
 mod Sound
-mod Taken
 mod Stages
 mod LinkWords
 mod Keyed
