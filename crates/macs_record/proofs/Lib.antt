@@ -6,5 +6,4 @@ pub mod OneRecord
 pub mod Lengths
 pub mod Commands
 pub mod Fingerprints
-pub mod Fields
 pub mod OneHead

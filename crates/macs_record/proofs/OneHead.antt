@@ -26,6 +26,8 @@ version_read None version old left is here = tt
 version_read (Some format) version old left is here = here
     ∙ ap (λ (n : ℕ). head_mark ++ to_be_bytes w32 n ++ left) (sym is)
 
+-- ---- a head
+
 abbrev identity_from : List ℕ → List ℕ → Identity
 identity_from sci blocks = record {
   sci = sci;
