@@ -30,7 +30,7 @@ pub blank-synced : (s : DiskState) → IsNotFormatted s.seen → IsBlank (state_
 blank-synced s none = record { clean = λ area le. refl; fresh = λ area le. refl; closed = none }
 
 -- runs that leave both gates alone
-pub blank-leaves : (old new : Disk) → IsBlank (now old) → Works old new
+blank-leaves : (old new : Disk) → IsBlank (now old) → Works old new
     → ((area : ℕ) → area ≤ 1 → IsSpared old new (gate area 0)) → Leaves old new IsNotFormatted
 blank-leaves old new blank works spared = record {
   works = works;
@@ -41,6 +41,8 @@ blank-leaves old new blank works spared = record {
         (left-same old new image (gate 1 0) (blank.clean 1 (omega arith)) (spared 1 (omega arith)) left) opens),
   );
 }
+
+-- ---- while a disk is formatted
 
 one_item : (r other : Record) (j : ℕ) → slice_get (r ∷ []) j ≡ Some other → (j ≡ 0) × (r ≡ other)
 one_item r other j at =

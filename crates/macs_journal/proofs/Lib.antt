@@ -1,4 +1,3 @@
-pub mod Items
 pub mod Working
 pub mod Counting
 pub mod Current
@@ -10,7 +9,6 @@ pub mod Appends
 pub mod AppendCalls
 pub mod Holding
 pub mod OpenGates
-pub mod HeadOpened
 pub mod Closing
 pub mod NewArea
 pub mod Compacting
