@@ -6,8 +6,7 @@ use Rattle.macs_endpoint.specs.Restart.{opened_state}
 use Rattle.macs_endpoint.specs.declared.queue.Waiting.{Waiting}
 use Rattle.macs_endpoint.specs.State.{Call, Commands, Reply, State, state_with_under_way}
 use Rattle.macs_endpoint.specs.Step.{Exchange, Step, Steps, TakesUp}
-use Rattle.macs_headline.specs.CommandUnderWay.{MayBegin, WasBegun, refusal_at}
-use Rattle.macs_headline.specs.Commands.{waiting_at_end}
+use Rattle.macs_headline.specs.Commands.{MayBegin, WasBegun, refusal_at, waiting_at_end}
 use Rattle.macs_headline.specs.History.{logs_of, state_at_end}
 use Rattle.macs_headline.specs.Moments.{Moment}
 use Rattle.macs_headline.proofs.Accepted.{no-refusal}

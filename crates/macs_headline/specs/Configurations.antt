@@ -10,8 +10,8 @@ use Rattle.macs_store.specs.Found.{StandingIs}
 use Rattle.macs_store.specs.Standing.{Standing}
 use Rattle.macs_endpoint.specs.State.{Call, State}
 use Rattle.macs_endpoint.specs.Step.{Exchange}
-use Rattle.macs_headline.specs.CommandUnderWay.{WasBegun}
-use Rattle.macs_headline.specs.Commands.{CommandsMake, IsPrefix, WasHandedIn, accepted_commands, acknowledged_commands}
+use Rattle.macs_headline.specs.Commands.{WasBegun, CommandsMake, IsPrefix, WasHandedIn, accepted_commands}
+use Rattle.macs_headline.specs.Commands.{acknowledged_commands}
 use Rattle.macs_headline.specs.History.{Formats, Life, Past, Refuses, Serves, state_at_end}
 use Rattle.macs_headline.specs.Moments.{IsFoundAfter, Moment}
 

@@ -6,7 +6,6 @@ pub mod Configurations
 pub mod Answered
 pub mod Frames
 pub mod Deliveries
-pub mod CommandUnderWay
 pub mod Openings
 pub mod Deeds
 pub mod Endings
