@@ -15,7 +15,7 @@ use Rattle.std.proofs.lemmas.List.Sums.{position_or_len_is}
 use Rattle.std.proofs.lemmas.Str.Pattern.{IsSplitOnceResult, split_once_first}
 use Rattle.hex.specs.Hex.{IsBytes, encode_lower, is_hex_digit}
 use Rattle.hex.proofs.HexLemmas.{IsOk-decode_sized, decode_sized-encode_lower}
-use Rattle.macs_commands.specs.Cutting.{after_word, first_word, spaced}
+use Rattle.macs_commands.specs.CommandLines.{after_word, first_word, spaced}
 
 -- ---- texts without an octet
 

@@ -1,5 +1,5 @@
 -- The keys of a link that is read have their lengths.
-use Rattle.std.proofs.Common.{◌≡◌, ◌∙◌, ◌*◌, ◌+◌, ℕ, List, [], ◌∷◌, ◌++◌, length, Option, Some, None, Result, Ok, Err}
+use Rattle.std.proofs.Common.{◌≡◌, ◌∙◌, ◌*◌, ◌+◌, ◌∷◌, ◌++◌, ℕ, List, [], length, Option, Some, None, Result, Ok, Err}
 use Rattle.std.proofs.Common.{codes, refl, sym, ap, subst, arith}
 use Rattle.std.specs.Prelude.{option_and_then}
 use Rattle.std.specs.Option.{option_map}
@@ -10,16 +10,16 @@ use Rattle.toml.specs.Data.{Items, Members, item, no_items}
 use Rattle.macs_aes.specs.Keys.{HasItsLength}
 use Rattle.macs_aes.specs.declared.keys.Key.{Key}
 use Rattle.macs_aes.specs.declared.keys.Key.TheVariants.{Long, Short}
-use Rattle.macs_commands.specs.Tables.{text_at}
+use Rattle.macs_commands.specs.Tables.{key_at, text_at}
 use Rattle.macs_commands.specs.Digits.{key_of, octets_of}
 use Rattle.macs_commands.specs.Accepting.{HasKeys, Refuses}
-use Rattle.macs_commands.specs.LinkWords.{IsNewest}
 use Rattle.macs_commands.specs.Reading.{file_link, key_pair, key_pairs}
-use Rattle.macs_commands.specs.Tables.{key_at}
+use Rattle.macs_commands.specs.Planning.{own_key}
 use Rattle.macs_commands.specs.declared.links.link.KeyPair.{KeyPair}
 use Rattle.macs_commands.specs.declared.links.link.Link.{Link}
-use Rattle.macs_commands.proofs.LinkWords.{ends, last, one, pair_read, whole}
-use Rattle.macs_commands.proofs.PlanWords.{has_keys}
+use Rattle.macs_commands.specs.declared.links.link.End.{End}
+use Rattle.macs_commands.specs.declared.links.link.End.TheVariants.{Left, Right}
+use Rattle.macs_commands.proofs.LinkWords.{IsNewest, ends, last, one, pair_read, whole}
 use Rattle.macs_commands.proofs.Sound.{is_sound}
 
 -- ---- a key
@@ -71,6 +71,11 @@ there_long : (name : List ℕ) (m : Members) (key : Key) → key_at name m ≡ S
 there_long name m key is = of_text (text_at name m) key is
 
 -- ---- pairs of keys
+
+has_keys : (pair : KeyPair) → HasItsLength pair.left → HasItsLength pair.right
+    → (end : End) → HasItsLength (own_key pair end)
+has_keys pair left right Left = left
+has_keys pair left right Right = right
 
 pair_long : (at : ℕ) (m : Members) (pair : KeyPair) → key_pair at m ≡ Ok pair → HasKeys pair
 pair_long at m pair is =

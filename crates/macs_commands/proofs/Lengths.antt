@@ -18,10 +18,8 @@ use Rattle.macs_config.specs.declared.command.SciMode.TheVariants.{Explicit, End
 use Rattle.macs_config.specs.declared.command.Validate.{Validate}
 use Rattle.macs_config.specs.declared.command.Validate.TheVariants.{Strict, Check}
 use Rattle.macs_fields.specs.Fields.{IsOctets, IsSci}
-use Rattle.macs_commands.specs.Cutting.{spaced}
-use Rattle.macs_commands.specs.CommandLines.{key_digits}
+use Rattle.macs_commands.specs.CommandLines.{spaced, key_digits, IsTold, command_line, fields_of}
 use Rattle.macs_commands.specs.Words.{protection_word, replay_word, sci_mode_word, validate_word}
-use Rattle.macs_commands.specs.CommandLines.{IsTold, command_line, fields_of}
 use Rattle.macs_commands.specs.Words.{word_of, word_text}
 use Rattle.macs_commands.specs.Requests.{IsAsked, request_line}
 use Rattle.macs_commands.specs.declared.requests.request.Request.{Request}

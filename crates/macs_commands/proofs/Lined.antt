@@ -1,6 +1,6 @@
 -- Words that are written on a paper, one after another.
 use Rattle.std.proofs.Common.{◌∙◌, ◌++◌, List, ℕ, codes, ap, append_assoc}
-use Rattle.macs_commands.specs.Cutting.{spaced}
+use Rattle.macs_commands.specs.CommandLines.{spaced}
 use Rattle.macs_commands.specs.Papers.{Sheet, Writes, written}
 use Rattle.macs_commands.proofs.Written.{written_both}
 

@@ -1,18 +1,14 @@
 -- All that is to be drawn of the words on a link's file.
-use Rattle.std.proofs.Common.{◌≡◌, ◌∙◌, ◌≤◌, ◌+◌, ℕ, Bool, true, false, cond, List, [], ◌∷◌, length, Option, Some}
+use Rattle.std.proofs.Common.{◌≡◌, ◌∙◌, ◌≤◌, ◌+◌, ◌++◌, ◌∷◌, ℕ, Bool, true, false, cond, List, [], length, Option, Some}
 use Rattle.std.proofs.Common.{None, Result, Ok, Err, bytes_eq, codes, nat_lt, refl, sym, ap, subst, arith}
 use Rattle.std.specs.Prelude.{option_and_then}
 use Rattle.std.proofs.lemmas.Bool.{ltb-false}
 use Rattle.toml.specs.Data.{Data, Items, Members, array, as_array, as_table, boolean, datetime, float, get_member}
 use Rattle.toml.specs.Data.{integer, item, no_items, string, table}
 use Rattle.macs_aes.specs.declared.keys.Key.{Key}
-use Rattle.macs_commands.specs.Tables.{count}
-use Rattle.macs_commands.specs.Tables.{an_in}
-use Rattle.macs_commands.specs.LinkWords.{IsNewest}
-use Rattle.macs_commands.specs.Reading.{◌>>=◌, end_sci, file_link, followed, key_pair}
-use Rattle.macs_commands.specs.Tables.{items_at, key_at}
-use Rattle.macs_commands.specs.Reading.{key_pairs, newest_link, required, reuses_an, tables_link}
-use Rattle.macs_commands.specs.Tables.{table_at}
+use Rattle.macs_commands.specs.Tables.{count, an_in, items_at, key_at, table_at}
+use Rattle.macs_commands.specs.Reading.{◌>>=◌, end_sci, file_link, followed, key_pair, key_pairs, newest_link, required}
+use Rattle.macs_commands.specs.Reading.{reuses_an, tables_link}
 use Rattle.macs_commands.specs.declared.links.link.KeyPair.{KeyPair}
 use Rattle.macs_commands.specs.declared.links.link.Link.{Link}
 use Rattle.macs_commands.specs.declared.links.plan_fault.Place.{Place}
@@ -69,6 +65,11 @@ whole m link is =
     )
 
 -- ---- the newest
+
+-- the last of these pairs is the newest, after the previous one, if there are two
+abbrev pub IsNewest : List KeyPair → Option KeyPair → KeyPair → Type 0
+IsNewest pairs None newest = pairs ≡ newest ∷ []
+IsNewest pairs (Some earlier) newest = (front : List KeyPair) × (pairs ≡ front ++ earlier ∷ newest ∷ [])
 
 longer : (first pair next : KeyPair) (pairs : List KeyPair) (earlier : Option KeyPair) (newest : KeyPair)
     → IsNewest (pair ∷ next ∷ pairs) earlier newest → IsNewest (first ∷ pair ∷ next ∷ pairs) earlier newest

@@ -1,16 +1,29 @@
 -- The line of a command: its word, and its fields in order, with a blank before each.
-use Rattle.std.specs.Prelude.{ℕ, List}
+use Rattle.std.specs.Prelude.{ℕ, List, ◌==◌, ◌++◌, codes}
 use Rattle.std.specs.Fmt.{decimal}
+use Rattle.std.specs.List.{after_first, before_first}
 use Rattle.hex.specs.Hex.{encode_lower}
 use Rattle.macs_aes.specs.Keys.{HasItsLength, octets_of_key}
 use Rattle.macs_aes.specs.declared.keys.Key.{Key}
 use Rattle.macs_config.specs.Apply.{IsCommand}
 use Rattle.macs_config.specs.declared.command.Command.{Command}
-use Rattle.macs_config.specs.declared.command.Command.TheVariants.{SetValidate, SetReplay, SetSciMode}
-use Rattle.macs_config.specs.declared.command.Command.TheVariants.{TxInstall, TxUse, TxRemove}
-use Rattle.macs_config.specs.declared.command.Command.TheVariants.{RxAdd, RxDrop, RxInstall, RxRemove}
-use Rattle.macs_commands.specs.Cutting.{spaced}
+use Rattle.macs_config.specs.declared.command.Command.TheVariants.{SetValidate, SetReplay, SetSciMode, TxInstall, TxUse}
+use Rattle.macs_config.specs.declared.command.Command.TheVariants.{TxRemove, RxAdd, RxDrop, RxInstall, RxRemove}
 use Rattle.macs_commands.specs.Words.{protection_word, replay_word, sci_mode_word, validate_word, word_of, word_text}
+
+-- ---- the words of a text
+
+-- a word, a blank, and what follows
+abbrev pub spaced : List ℕ → List ℕ → List ℕ
+spaced word rest = word ++ (codes " " ++ rest)
+
+-- a text up to its first blank, or all of it
+abbrev pub first_word : List ℕ → List ℕ
+first_word text = before_first (λ octet. octet == 32) text
+
+-- what follows the first blank of a text, or nothing
+abbrev pub after_word : List ℕ → List ℕ
+after_word text = after_first (λ octet. octet == 32) text
 
 -- ---- values
 

@@ -8,8 +8,6 @@ pub mod Planning
 pub mod Reading
 pub mod Writing
 pub mod Accepting
-pub mod LinkWords
-pub mod Cutting
 pub mod CommandLines
 pub mod Requests
 pub mod Inboxes

@@ -2,8 +2,7 @@
 use Rattle.std.specs.Prelude.{ℕ, if◌then◌else◌, List, codes, Option, Some, None}
 use Rattle.std.specs.Fmt.{decimal}
 use Rattle.std.specs.Str.{bytes_eq}
-use Rattle.macs_commands.specs.Cutting.{spaced}
-use Rattle.macs_commands.specs.CommandLines.{IsTold, command_line}
+use Rattle.macs_commands.specs.CommandLines.{spaced, IsTold, command_line}
 use Rattle.macs_commands.specs.declared.requests.request.Request.{Request}
 use Rattle.macs_commands.specs.declared.requests.request.Request.TheVariants.{About, Apply, Counters, Keys, Show, Stop}
 use Rattle.macs_commands.specs.declared.requests.request.Request.TheVariants.{Traffic}

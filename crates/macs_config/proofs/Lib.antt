@@ -2,7 +2,6 @@ pub mod OffsetChoice
 pub mod StoredChannels
 pub mod Channels
 pub mod Spent
-pub mod Comparison
 pub mod Tables
 pub mod Keyed
 pub mod Lent
@@ -12,6 +11,5 @@ pub mod Kept
 pub mod Replayed
 pub mod Listed
 pub mod Refused
-pub mod SpentForGood
 pub mod Editions
 mod SnapshotWords

@@ -1,7 +1,7 @@
 -- A call of a disk in a file is a call of a disk.
-use Rattle.std.proofs.Common.{◌≡◌, ◌≤◌, ◌<◌, ◌+◌, ◌-◌, ◌^◌, ◌&&◌, ◌==◌, ◌⊎◌, inl, inr, ℕ, zero, suc, Bool, true, false}
-use Rattle.std.proofs.Common.{List, [], ◌∷◌, ◌++◌, length, get_or, nat_le, refl, ap, ◌∙◌, arith, subst, sym, Result, Ok}
-use Rattle.std.proofs.Common.{Err, OnOk, OnErr, IsErr, ◌↔◌}
+use Rattle.std.proofs.Common.{◌≡◌, ◌≤◌, ◌<◌, ◌+◌, ◌-◌, ◌^◌, ◌&&◌, ◌==◌, ◌⊎◌, ◌∷◌, ◌++◌, ◌∙◌, ◌↔◌, inl, inr, ℕ, zero}
+use Rattle.std.proofs.Common.{suc, Bool, true, false, List, [], length, get_or, nat_le, refl, ap, arith, subst, sym}
+use Rattle.std.proofs.Common.{Result, Ok, Err, OnOk, OnErr, IsErr}
 use Rattle.std.proofs.lemmas.Bool.{cases_lt, and_parts}
 use Rattle.std.proofs.lemmas.List.{get_or_past}
 use Rattle.std.specs.declared.snapshot.Snapshot.{Snapshot}
@@ -46,6 +46,17 @@ answered-write old new at octets answer result alike writes = record {
   err = λ sure. on-err answer result _ alike (writes.err sure);
   doubt = writes.doubt;
 }
+
+-- counts of two steps
+same-count : {T E : Type 0} (result : Result T E) (new mid old : ℕ) → OnOk result (new ≡ mid) → mid ≡ old
+    → OnOk result (new ≡ old)
+same-count (Ok x) new mid old here before = here ∙ before
+same-count (Err e) new mid old here before = tt
+
+one-more : {T E : Type 0} (result : Result T E) (new mid old : ℕ) → OnErr result (new ≡ mid + 1) → mid ≡ old
+    → OnErr result (new ≡ old + 1)
+one-more (Ok x) new mid old here before = tt
+one-more (Err e) new mid old here before = here ∙ ap (λ (n : ℕ). n + 1) before
 
 -- a call that a worn disk refuses
 pub worn-call : {T E : Type 0} (disk : Disk) (result : Result T E) → IsErr result → disk.worn ≡ true
@@ -182,6 +193,22 @@ module _ {F : Type 0} (file : F → FileState) where
         alike = λ was. let is = test_full clock was in absurd (omega (arith, is, lt));
       })
 
+  -- the same of a disk that one step begins the call of, and another ends it
+  pub two-step-call : {T E : Type 0} (old mid new : FileDisk F) (result : Result T E) → mid.layout ≡ old.layout
+      → mid.sectors ≡ old.sectors
+      → mid.past.items ≡ old.past.items ++ old.shown ∷ [] → old.clock < most → mid.clock ≡ old.clock + 1
+      → mid.failures ≡ old.failures
+      → new.layout ≡ mid.layout → new.sectors ≡ mid.sectors → new.past.items ≡ mid.past.items → new.clock ≡ mid.clock
+      → OnOk result (new.failures ≡ mid.failures) → OnErr result (new.failures ≡ mid.failures + 1)
+      → keeps_disk old.layout (file new.shown.value) ≡ keeps_disk old.layout (file old.shown.value)
+      → IsDeviceCall (disk_in_file file old) (disk_in_file file new) result
+  two-step-call old mid new result lay count goes_on lt next steady lay_on count_on past_on clock_on ok err fit =
+      file-call old.layout new.layout old.past.items new.past.items old.shown new.shown old.sectors new.sectors
+      old.clock new.clock old.failures new.failures result
+      old.kept (lay_on ∙ lay) (past_on ∙ goes_on) lt (clock_on ∙ next) (count_on ∙ count)
+      (same-count result new.failures mid.failures old.failures ok steady)
+      (one-more result new.failures mid.failures old.failures err steady) fit
+
   -- what a call did to the file it did to the disk
   pub effect : (P : DiskState → DiskState → Type 0) (layout kept_layout : Layout) (past more : List (Snapshot F))
       (shown new : Snapshot F) (clock later : ℕ)
@@ -257,14 +284,3 @@ module _ {F : Type 0} (file : F → FileState) where
       let most = and_parts ((file shown.value).is_clean && (file shown.value).is_size_durable)
       (nat_le (place layout sectors) (file shown.value).size) ready in
       (and_parts (file shown.value).is_clean (file shown.value).is_size_durable most.0).0
-
--- counts of two steps
-pub same-count : {T E : Type 0} (result : Result T E) (new mid old : ℕ) → OnOk result (new ≡ mid) → mid ≡ old
-    → OnOk result (new ≡ old)
-same-count (Ok x) new mid old here before = here ∙ before
-same-count (Err e) new mid old here before = tt
-
-pub one-more : {T E : Type 0} (result : Result T E) (new mid old : ℕ) → OnErr result (new ≡ mid + 1) → mid ≡ old
-    → OnErr result (new ≡ old + 1)
-one-more (Ok x) new mid old here before = tt
-one-more (Err e) new mid old here before = here ∙ ap (λ (n : ℕ). n + 1) before

@@ -1,6 +1,6 @@
 -- What goes each way of a relay that is attended, and what is reported to its desk.
-use Rattle.std.proofs.Common.{◌≡◌, ◌++◌, inl, inr, ℕ, zero, suc, Bool, true, false, List, [], ◌∷◌, map, Option, Result, Ok}
-use Rattle.std.proofs.Common.{Err, refl, sym, ap, ◌∙◌, subst, append-nil, append_assoc}
+use Rattle.std.proofs.Common.{◌≡◌, ◌++◌, ◌∷◌, ◌∙◌, inl, inr, ℕ, zero, suc, Bool, true, false, List, [], map, Option}
+use Rattle.std.proofs.Common.{Result, Ok, Err, refl, sym, ap, subst, append-nil, append_assoc}
 use Rattle.std.specs.Prelude.{flat_map}
 use Rattle.std.proofs.lemmas.List.Concat.{flat_map-append}
 use Rattle.macs_disk.specs.Disk.{Disk}
@@ -13,19 +13,18 @@ use Rattle.macs_endpoint.specs.declared.progress.Step.{Step as Progress}
 use Rattle.macs_edge.specs.Attending.{Attends, AttendsTurns, Obeys, TakesAllAttended, failed_of, rests_after}
 use Rattle.macs_edge.specs.declared.attending.DeskEvent.{DeskEvent}
 use Rattle.macs_edge.specs.declared.attending.DeskEvent.TheVariants.{Rested, Wanted}
-use Rattle.macs_edge.specs.Commanding.{Ended, IsAttendedFlow, all_failed, answered_to, done_by, ended_by}
-use Rattle.macs_edge.specs.Commanding.{handed_in_by, submitted_by, ticket_in, tickets_answered, tickets_of}
-use Rattle.macs_edge.specs.Commanding.{tickets_taken, told_by}
+use Rattle.macs_edge.specs.Commanding.{Ended, IsAttendedFlow, all_failed, answered_to, done_by, ended_by, handed_in_by}
+use Rattle.macs_edge.specs.Commanding.{submitted_by, ticket_in, tickets_answered, tickets_of, tickets_taken, told_by}
 use Rattle.macs_edge.specs.Flows.{Flow, given}
 use Rattle.macs_edge.specs.Relaying.{Relay, TakesTurn, empty_lane, summary_of}
 use Rattle.macs_edge.specs.declared.attending.Order.TheVariants.{End}
 use Rattle.macs_edge.specs.declared.settling.Side.{Side}
 use Rattle.macs_edge.specs.declared.settling.Side.TheVariants.{Controlled, Common}
 use Rattle.macs_edge.proofs.Flowing.{Goes, flow-begins, given-append, goes-flows, turn-goes}
-use Rattle.macs_edge.proofs.Living.{lives-append}
-use Rattle.macs_edge.proofs.Matching.{Matches, ObeysWith, answered-append, failed-ended, failed-handed}
-use Rattle.macs_edge.proofs.Matching.{failed-tickets, failed-told, matches-append, matches-frames, matches-last}
-use Rattle.macs_edge.proofs.Matching.{matches-none, obeys-with, taken-append, told-told, told_of_turn}
+use Rattle.macs_edge.proofs.LastCalls.{lives-append}
+use Rattle.macs_edge.proofs.Matching.{Matches, ObeysWith, answered-append, failed-ended, failed-handed, failed-tickets}
+use Rattle.macs_edge.proofs.Matching.{failed-told, matches-append, matches-frames, matches-last, matches-none}
+use Rattle.macs_edge.proofs.Matching.{obeys-with, taken-append, told-told, told_of_turn}
 
 -- what goes each way, and that the calls match what is reported to the desk
 pub record Attended {D : Type 0} (disk_of : D → Disk) (old : Relay D) (events : List DeskEvent) (new : Relay D)

@@ -1,6 +1,6 @@
 -- One record after others.
-use Rattle.std.proofs.Common.{◌≡◌, ◌+◌, ◌<◌, ◌++◌, ℕ, Bool, true, false, cond, List, [], ◌∷◌, length, Option, Some}
-use Rattle.std.proofs.Common.{None, Ok, Err, refl, sym, ap, ◌∙◌, subst, arith, append_assoc, append-nil, length-append}
+use Rattle.std.proofs.Common.{◌≡◌, ◌+◌, ◌<◌, ◌++◌, ◌∷◌, ◌∙◌, ℕ, Bool, true, false, cond, List, [], length, Option, Some}
+use Rattle.std.proofs.Common.{None, Ok, Err, refl, sym, ap, subst, arith, append_assoc, append-nil, length-append}
 use Rattle.std.specs.Io.KnownBytes.{Appends}
 use Rattle.std.proofs.KnownBytes.{Appends-nil, Appends-trans}
 use Rattle.macs_disk.specs.Disk.{Disk}
@@ -22,7 +22,7 @@ use Rattle.macs_edge.specs.Telling.{HasJudged, Judges, Telling, Tells, TellsAll,
 use Rattle.macs_edge.specs.declared.capture_runs.RunFault.{RunFault}
 use Rattle.macs_edge.specs.declared.capture_runs.Summary.{Summary}
 use Rattle.macs_edge.specs.declared.settling.Side.{Side}
-use Rattle.macs_edge.proofs.Living.{lives-append}
+use Rattle.macs_edge.proofs.LastCalls.{lives-append}
 
 -- ---- lists of records, one longer
 

@@ -1,7 +1,6 @@
 -- All that is to be drawn from words on turns, on records that pass, on sleeps and on sockets.
-use Rattle.std.proofs.Common.{◌≡◌, ◌≢◌, ◌<◌, ◌≤◌, ◌⊎◌, ◌↔◌, inl, inr, ◌+◌, ◌++◌, ◌&&◌, ℕ, zero, suc}
-use Rattle.std.proofs.Common.{List, [], ◌∷◌, length, Option, Some, None, Result, Ok, Err, refl}
-use Rattle.std.proofs.Common.{OnErr, OnOk, sym, ◌∙◌, ap, subst, arith}
+use Rattle.std.proofs.Common.{◌≡◌, ◌≤◌, ◌+◌, ◌++◌, ◌∷◌, ◌∙◌, inl, inr, ℕ, zero, suc, List, [], length, Option, Some}
+use Rattle.std.proofs.Common.{None, Result, Ok, Err, refl, OnOk, sym, ap, subst, arith}
 use Rattle.macs_disk.specs.Disk.{Disk}
 use Rattle.macs_pcap.specs.Header.{header_text}
 use Rattle.macs_pcap.specs.Reading.{HoldsOfLeft, ReadsHeader}
@@ -16,10 +15,9 @@ use Rattle.macs_endpoint.specs.Value.{EndpointValue}
 use Rattle.macs_endpoint.specs.declared.fault.RefillFault.{RefillFault}
 use Rattle.macs_endpoint.specs.declared.fault.StepFault.{StepFault}
 use Rattle.macs_endpoint.specs.declared.progress.Step.{Step as Progress}
-use Rattle.macs_edge.specs.Drawn.{ArePrompt, FlowsInTurns, FlowsWithin}
+use Rattle.macs_edge.specs.Flows.{ArePrompt, FlowsInTurns, FlowsWithin}
 use Rattle.macs_edge.specs.CaptureRuns.{HasPassed, Run, RunsOver}
-use Rattle.macs_edge.specs.Relaying.{HandsWaiting, Relay, Relays, TakesTurn, TakesTurns, Way}
-use Rattle.macs_edge.specs.Relaying.{empty_lane}
+use Rattle.macs_edge.specs.Relaying.{HandsWaiting, Relay, Relays, TakesTurn, TakesTurns, Way, empty_lane}
 use Rattle.macs_edge.specs.declared.capture_runs.RunFault.TheVariants.{Pcap}
 use Rattle.macs_edge.specs.declared.capture_runs.Summary.{Summary}
 use Rattle.macs_edge.specs.declared.relaying.RelaySummary.{RelaySummary}

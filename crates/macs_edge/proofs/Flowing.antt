@@ -1,17 +1,15 @@
 -- What goes each way of a relay, turn by turn.
-use Rattle.std.proofs.Common.{◌≡◌, ◌⊎◌, inl, inr, ◌+◌, ◌++◌, ℕ, zero, suc, List, [], ◌∷◌, length, Option, None, Some}
-use Rattle.std.proofs.Common.{Result, Ok, Err, refl, sym, ap, ◌∙◌, subst, arith, append_assoc, append-nil}
+use Rattle.std.proofs.Common.{◌≡◌, ◌⊎◌, ◌+◌, ◌++◌, ◌∷◌, ◌∙◌, inl, inr, ℕ, zero, suc, List, [], length, Option, None}
+use Rattle.std.proofs.Common.{Some, Result, Ok, Err, refl, sym, ap, subst, arith, append_assoc, append-nil}
 use Rattle.std.proofs.Common.{length-append}
 use Rattle.std.specs.Option.{option_map}
 use Rattle.macs_disk.specs.Disk.{Disk}
 use Rattle.macs_txsc.specs.declared.fault.TxFault.TheVariants.{Runt, ForeignSource, NoEncodingSa, Exhausted, NoNumber}
 use Rattle.macs_txsc.specs.declared.fault.TxFault.TheVariants as tx
 use Rattle.macs_rxsc.specs.declared.verdict.Verdict.TheVariants.{Delivered, Discarded, HeldBack}
-use Rattle.macs_endpoint.specs.Calls.{IsCall}
 use Rattle.macs_endpoint.specs.Lives.{Lives, Transition}
-use Rattle.macs_endpoint.specs.State.{Advanced, AdvancedLong, Advances, Call, Protected, Protects, Ran, Received}
-use Rattle.macs_endpoint.specs.State.{Receives, Refilled, RefusedLong, Reply, Submitted}
-use Rattle.macs_endpoint.specs.State.{Rested}
+use Rattle.macs_endpoint.specs.State.{Advanced, AdvancedLong, Call, Protected, Protects, Ran, Received, Receives}
+use Rattle.macs_endpoint.specs.State.{Refilled, RefusedLong, Reply, Submitted, Rested}
 use Rattle.macs_endpoint.specs.Step.{IsStopped}
 use Rattle.macs_endpoint.specs.Value.{EndpointValue}
 use Rattle.macs_endpoint.specs.declared.fault.ProtectFault.TheVariants as protect
@@ -20,16 +18,15 @@ use Rattle.macs_endpoint.specs.declared.fault.StepFault.{StepFault}
 use Rattle.macs_endpoint.specs.declared.progress.Step.{Step as Progress}
 use Rattle.macs_edge.specs.Flows.{AllBut, Became, Flow, IsFlow, Sent, TakenOff, given, given_at, given_by}
 use Rattle.macs_edge.specs.Relaying.{Becomes, Carries, FillsWaiting, Forwards, HandsWaiting, LaneValue, Progresses}
-use Rattle.macs_edge.specs.Relaying.{Relay, Relays}
-use Rattle.macs_edge.specs.Relaying.{TakesTurn, TakesTurns, Way, empty_lane, one_dropped, one_left, summary_of, way_of}
+use Rattle.macs_edge.specs.Relaying.{Relay, Relays, TakesTurn, TakesTurns, Way, empty_lane, one_dropped, one_left}
+use Rattle.macs_edge.specs.Relaying.{summary_of, way_of}
 use Rattle.macs_edge.specs.Settling.{Settles, Waits, call_on}
 use Rattle.macs_edge.specs.Wires.{Gives, WireState, saturated}
 use Rattle.macs_edge.specs.declared.relaying.Tally.{Tally}
 use Rattle.macs_edge.specs.declared.settling.Side.{Side}
 use Rattle.macs_edge.specs.declared.settling.Side.TheVariants.{Controlled, Common}
 use Rattle.macs_edge.specs.declared.wire.Got.TheVariants.{Nothing, Frame, TooLong}
-use Rattle.macs_edge.proofs.LastCalls.{LastCalls, last-calls, last_call}
-use Rattle.macs_edge.proofs.Living.{lives-append}
+use Rattle.macs_edge.proofs.LastCalls.{LastCalls, last-calls, last_call, lives-append}
 
 -- ---- numbers
 

@@ -1,9 +1,8 @@
 -- The calls that the disk work of a turn makes of the endpoint: a step; or, while the disk has not answered, none or the
 -- beginning of one.
-use Rattle.std.proofs.Common.{◌≡◌, ◌≤◌, ◌⊎◌, inl, inr, ℕ, true, false, List, [], ◌∷◌, Option, Some, None, Result, Ok, Err}
-use Rattle.std.proofs.Common.{refl, sym, ap, ◌∙◌, subst}
+use Rattle.std.proofs.Common.{◌≡◌, ◌⊎◌, ◌∷◌, ◌∙◌, ◌++◌, inl, inr, true, false, List, [], Option, Some, None, Result, Ok}
+use Rattle.std.proofs.Common.{Err, refl, sym, subst}
 use Rattle.macs_disk.specs.Disk.{Disk}
-use Rattle.macs_store.specs.Value.{IsIdle}
 use Rattle.macs_store.specs.UnderWay.{UnderWay, Appending, Compacting, Nothing}
 use Rattle.macs_endpoint.specs.Calls.{IsCall}
 use Rattle.macs_endpoint.specs.Lives.{Lives, Transition}
@@ -12,8 +11,19 @@ use Rattle.macs_endpoint.specs.Value.{EndpointValue, IsSoundEndpoint}
 use Rattle.macs_endpoint.specs.declared.fault.StepFault.{StepFault}
 use Rattle.macs_endpoint.specs.declared.progress.Step.{Step as Progress}
 use Rattle.macs_endpoint.specs.declared.progress.Step.TheVariants.{Worked}
-use Rattle.macs_edge.specs.Drawn.{ArePrompt}
+use Rattle.macs_edge.specs.Flows.{ArePrompt}
 use Rattle.macs_edge.specs.Relaying.{Progresses}
+
+-- ---- calls after calls
+
+pub lives-append : {D : Type 0} (disk_of : D → Disk) (old between new : EndpointValue D)
+    (turns more : List (Transition D)) → Lives disk_of old turns between
+    → Lives disk_of between more new → Lives disk_of old (turns ++ more) new
+lives-append disk_of old between new [] more first second = subst (λ (e : _). Lives disk_of e more new) first second
+lives-append disk_of old between new (turn ∷ turns) more first second =
+    (first.0, first.1, lives-append disk_of turn.after between new turns more first.2 second)
+
+-- ---- the calls of a turn
 
 -- the answer of the call, if there is one: work that begins, and whose first device call has no answer yet, is answered
 -- as a step that worked

@@ -1,18 +1,16 @@
 -- A relay whose desk only ever says that it continues is a relay without a desk.
-use Rattle.std.proofs.Common.{◌≡◌, ◌++◌, ℕ, zero, suc, Bool, true, List, [], ◌∷◌, Option, Result, Ok, Err, inl, inr}
+use Rattle.std.proofs.Common.{◌≡◌, ◌++◌, ◌∷◌, ℕ, zero, suc, Bool, true, List, [], Option, Result, Ok, Err, inl, inr}
 use Rattle.std.proofs.Common.{subst}
 use Rattle.macs_disk.specs.Disk.{Disk}
 use Rattle.macs_endpoint.specs.Value.{EndpointValue}
 use Rattle.macs_endpoint.specs.declared.fault.RefillFault.{RefillFault}
-use Rattle.macs_endpoint.specs.declared.progress.Step.{Step as Progress}
-use Rattle.macs_edge.specs.Attending.{Attends, IsAttended, Obeys, TakesAllAttended, answers_of, failed_of}
+use Rattle.macs_edge.specs.Attending.{Attends, IsAttended, Obeys, TakesAllAttended, answers_of, failed_of, rests_after}
 use Rattle.macs_commands.specs.InTurn.{InTurn}
-use Rattle.macs_edge.specs.Attending.{rests_after}
 use Rattle.macs_edge.specs.declared.attending.DeskEvent.{DeskEvent}
 use Rattle.macs_edge.specs.declared.attending.DeskEvent.TheVariants.{Answered, Rested, Took, Wanted}
 use Rattle.macs_edge.specs.declared.attending.Order.TheVariants.{Go, Submit, End}
 use Rattle.macs_edge.specs.Relaying.{IsRelayed, Relay, Relays, TakesTurn, TakesTurns, relay_of}
-use Rattle.macs_edge.specs.Unattended.{PassesUnattended}
+use Rattle.macs_edge.specs.Resting.{PassesUnattended}
 use Rattle.macs_edge.specs.Wires.{WireState}
 use Rattle.macs_edge.specs.declared.relaying.RelaySummary.{RelaySummary}
 

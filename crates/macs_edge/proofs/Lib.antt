@@ -1,9 +1,6 @@
 pub mod Again
-mod Halting
-pub mod Living
 mod Lived
 pub mod Behind
-pub mod Told
 pub mod Once
 pub mod AllRecords
 pub mod Whole

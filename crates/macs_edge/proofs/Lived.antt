@@ -1,5 +1,5 @@
 -- A run leads from its endpoint to the one after it by calls, however it ends.
-use Rattle.std.proofs.Common.{ℕ, zero, suc, Bool, true, List, [], ◌∷◌, ◌++◌, Option, Some, None, Result, Ok, Err, inl}
+use Rattle.std.proofs.Common.{◌∷◌, ◌++◌, ℕ, zero, suc, Bool, true, List, [], Option, Some, None, Result, Ok, Err, inl}
 use Rattle.std.proofs.Common.{inr, refl, ap, subst}
 use Rattle.macs_disk.specs.Disk.{Disk}
 use Rattle.macs_endpoint.specs.Lives.{LivesOn}
@@ -22,8 +22,7 @@ use Rattle.macs_edge.specs.declared.attending.Order.{Order}
 use Rattle.macs_edge.specs.declared.attending.Order.TheVariants.{Go, Submit, End}
 use Rattle.macs_edge.specs.declared.settling.Side.{Side}
 use Rattle.macs_edge.specs.declared.settling.Side.TheVariants.{Controlled, Common}
-use Rattle.macs_edge.proofs.LastCalls.{last-calls}
-use Rattle.macs_edge.proofs.Living.{lives-append}
+use Rattle.macs_edge.proofs.LastCalls.{last-calls, lives-append}
 
 module _ {D : Type 0} (disk_of : D → Disk) where
   -- calls after calls

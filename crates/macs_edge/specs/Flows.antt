@@ -1,12 +1,14 @@
 -- A relay sends what the endpoint gave, except for failed sends; and what becomes of every frame that it takes.
-use Rattle.std.specs.Prelude.{◌≡◌, ◌⊎◌, ◌+◌, ◌++◌, ⊤, ℕ, Bool, true, false, if◌then◌else◌, List, [], ◌∷◌, length}
-use Rattle.std.specs.Prelude.{Option, Some, None, Ok}
+use Rattle.std.specs.Prelude.{◌≡◌, ◌⊎◌, ◌+◌, ◌++◌, if◌then◌else◌, ◌∷◌, ◌≤◌, ⊤, ℕ, Bool, true, false, List, [], length}
+use Rattle.std.specs.Prelude.{Option, Some, None, Ok, Result, OnErr, OnOk}
 use Rattle.std.specs.Option.{option_map}
 use Rattle.macs_disk.specs.Disk.{Disk}
 use Rattle.macs_rxsc.specs.declared.verdict.Verdict.TheVariants.{Delivered}
 use Rattle.macs_endpoint.specs.Lives.{Lives, Transition}
 use Rattle.macs_endpoint.specs.State.{Call, Protected, Protects, Received, Receives, Reply}
-use Rattle.macs_edge.specs.Relaying.{LaneValue, Relay, one_left}
+use Rattle.macs_endpoint.specs.WorkThroughCalls.{steps_made}
+use Rattle.macs_endpoint.specs.declared.fault.RefillFault.{RefillFault}
+use Rattle.macs_edge.specs.Relaying.{LaneValue, Relay, one_left, summary_of}
 use Rattle.macs_edge.specs.Wires.{WireState, saturated}
 use Rattle.macs_edge.specs.declared.relaying.RelaySummary.{RelaySummary}
 use Rattle.macs_edge.specs.declared.settling.Side.{Side}
@@ -91,3 +93,20 @@ pub record IsFlow {D : Type 0} (disk_of : D → Disk) (old new : Relay D) (summa
   pub others : ℕ
   pub dropped : summary.dropped ≡ saturated others
   pub all : out.taken + back.taken ≡ length out.frames + length back.frames + out.lost + back.lost + others
+
+-- ---- steps and turns
+
+-- each disk of this type is prompt
+abbrev pub ArePrompt : {D : Type 0} → (D → Disk) → Type 0
+ArePrompt {D} disk_of = (device : D) → (disk_of device).prompt ≡ true
+
+-- A relay that starts with empty lanes is a flow with at most one step per turn.
+abbrev pub FlowsWithin : {D : Type 0} → (D → Disk) → ℕ → Relay D → Relay D → Type 0
+FlowsWithin disk_of turns old new = (flow : IsFlow disk_of old new (summary_of new.to_common new.to_controlled))
+    × (steps_made flow.calls ≤ turns)
+
+-- A relay that starts with empty lanes is a flow with one step per turn: as many steps as turns if its result is Ok,
+-- and at most as many if a step is answered with a fault.
+abbrev pub FlowsInTurns : {D : Type 0} → (D → Disk) → ℕ → Relay D → Result RelaySummary RefillFault → Relay D → Type 0
+FlowsInTurns disk_of turns old result new = (flow : IsFlow disk_of old new (summary_of new.to_common new.to_controlled))
+    × OnOk result (steps_made flow.calls ≡ turns) × OnErr result (steps_made flow.calls ≤ turns)

@@ -12,7 +12,5 @@ pub mod Relaying
 pub mod Flows
 pub mod Resting
 pub mod Attending
-pub mod Unattended
 pub mod Commanding
 pub mod Counts
-pub mod Drawn

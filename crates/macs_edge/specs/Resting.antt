@@ -5,6 +5,9 @@ use Rattle.macs_endpoint.specs.declared.progress.Step.{Step as Progress}
 use Rattle.macs_endpoint.specs.declared.progress.Step.TheVariants.{Idle}
 use Rattle.macs_edge.specs.Relaying.{LaneValue, Relay}
 use Rattle.macs_edge.specs.declared.relaying.Tally.{Tally}
+use Rattle.macs_edge.specs.declared.attending.DeskEvent.{DeskEvent}
+use Rattle.macs_edge.specs.declared.attending.DeskEvent.TheVariants.{Rested, Wanted}
+use Rattle.macs_edge.specs.declared.attending.Order.TheVariants.{Go}
 
 -- a way rests: its lane is empty, and nothing has been counted since `before`
 abbrev pub WayRests : Tally → LaneValue → Type 0
@@ -24,3 +27,12 @@ IsQuiet progress old new = AllRest progress old.to_common.tally old.to_controlle
 -- how many sleeps there were, if reported, plus `count`
 abbrev pub with_sleeps : Option ℕ → ℕ → Option ℕ
 with_sleeps slept more = option_map (λ before. before + more) slept
+
+-- ---- a desk where nobody is
+
+-- an event there: the order is that the relay continues, and a rest is one sleep. How often it slept, if known, is
+-- `old` before and `new` after
+abbrev pub PassesUnattended : DeskEvent → Option ℕ → Option ℕ → Type 0
+PassesUnattended (Wanted was_quiet order) old new = (order ≡ Go) × (new ≡ old)
+PassesUnattended Rested old new = new ≡ with_sleeps old 1
+PassesUnattended event old new = new ≡ old

@@ -6,7 +6,7 @@ ghost use Rattle.macs_endpoint.specs.State.{State};
 ghost use Rattle.macs_endpoint.specs.declared.fault.RefillFault.{RefillFault};
 ghost use Rattle.macs_edge.specs.Attending.{Attends};
 ghost use Rattle.macs_edge.specs.Commanding.{IsAttendedFlow};
-ghost use Rattle.macs_edge.specs.Drawn.{ArePrompt, FlowsInTurns, FlowsWithin};
+ghost use Rattle.macs_edge.specs.Flows.{ArePrompt, FlowsInTurns, FlowsWithin};
 ghost use Rattle.macs_edge.specs.Flows.{IsFlow};
 ghost use Rattle.macs_edge.specs.CaptureRuns.{BecomesCapture, Passes};
 ghost use Rattle.macs_edge.specs.Relaying.{Relay, Relays, empty_lane, summary_of};

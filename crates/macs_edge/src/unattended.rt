@@ -43,7 +43,7 @@ pub struct Unattended<I> {
 }
 
 impl<I: Idle, D: SectorDisk, P: Wire, C: Wire> Desk<D, P, C> for Unattended<I> {
-    ghost use Rattle.macs_edge.specs.Unattended.{PassesUnattended};
+    ghost use Rattle.macs_edge.specs.Resting.{PassesUnattended};
 
     ghost hears = { λ old event new.
         PassesUnattended event (I.sleeps old.idle) (I.sleeps new.idle) };

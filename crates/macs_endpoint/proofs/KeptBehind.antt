@@ -1,6 +1,6 @@
 -- A command after a reservation that was under way.
-use Rattle.std.proofs.Common.{◌≡◌, ◌≤◌, ◌+◌, ◌⊎◌, [], inl, inr, ℕ, true, false, Some, None, Result, Ok, Err, is_err}
-use Rattle.std.proofs.Common.{IsErrOf, IsOk, OnOk, refl, sym, ◌∙◌, ap, subst, arith}
+use Rattle.std.proofs.Common.{◌≡◌, ◌≤◌, ◌+◌, ◌⊎◌, ◌∙◌, [], inl, inr, ℕ, true, false, Some, None, Result, Ok, Err}
+use Rattle.std.proofs.Common.{is_err, IsErrOf, IsOk, OnOk, refl, sym, ap, subst, arith}
 use Rattle.macs_config.specs.Apply.{IsCommand, Named, Reason, apply}
 use Rattle.macs_config.specs.Config.{Config, this_edition}
 use Rattle.macs_config.specs.declared.command.Command.{Command}
@@ -39,11 +39,12 @@ disk_named : (fault : RefillFault) → IsErrOf {T = Unit {0}} (Err fault) refill
 disk_named fault is = cc
 
 -- a reservation that did not end was cut short by a device call
-pub cut-named : {D : Type 0} (disk_of : D → disk.Disk) (e mid : EndpointValue D)
+pub ended-cut : {D : Type 0} (disk_of : D → disk.Disk) (e mid : EndpointValue D)
     (result : Result (Unit {0}) RefillFault) → is_err result ≡ true
-    → ReservationEnds disk_of e result mid → result ≡ Err refill.Disk
-cut-named disk_of e mid (Ok done) is ends = absurd cc
-cut-named disk_of e mid (Err fault) is ends = ap Err (disk_named fault ends.fault.0)
+    → ReservationEnds disk_of e result mid → ReservationEnds disk_of e (Err refill.Disk) mid
+ended-cut disk_of e mid (Ok done) is ends = absurd cc
+ended-cut disk_of e mid (Err fault) is ends =
+    subst (λ (f : RefillFault). ReservationEnds disk_of e (Err f) mid) (disk_named fault ends.fault.0) ends
 
 pub ended-well : {D : Type 0} (disk_of : D → disk.Disk) (e mid : EndpointValue D)
     (result : Result (Unit {0}) RefillFault) → is_err result ≡ false

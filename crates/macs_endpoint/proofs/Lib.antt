@@ -3,11 +3,8 @@ pub mod Working
 mod Alone
 mod Carrying
 pub mod Framing
-pub mod FrameNumbers
 pub mod Turns
-pub mod Formatted
 pub mod Following
-mod PacketNumber
 pub mod Rooms
 pub mod Seen
 pub mod Opened
@@ -27,7 +24,6 @@ mod Queued
 pub mod Work
 pub mod Changes
 mod Idled
-pub mod Still
 pub mod Alike
 mod WorkThroughCalls
 mod Between
@@ -36,4 +32,3 @@ mod OneCommand
 pub mod Rested
 mod RestCall
 mod MadeSteps
-mod Skipped

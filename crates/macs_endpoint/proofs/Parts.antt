@@ -3,8 +3,7 @@ use Rattle.std.proofs.Common.{◌≡◌, Option, Some, None, sym, subst}
 use Rattle.macs_config.specs.declared.command.Command.{Command}
 use Rattle.macs_store.specs.Value.{StoreValue}
 use Rattle.macs_endpoint.specs.Ceilings as ceilings
-use Rattle.macs_endpoint.specs.Parts.{endpoint_of}
-use Rattle.macs_endpoint.specs.PrivateTypes.{raise_of}
+use Rattle.macs_endpoint.specs.Parts.{endpoint_of, raise_of}
 use Rattle.macs_endpoint.specs.Queue.{QueueValue}
 use Rattle.macs_endpoint.specs.Value.{EndpointValue}
 use Rattle.macs_endpoint.specs.declared.channels.Channels.{Channels}

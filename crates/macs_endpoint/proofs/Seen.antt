@@ -1,8 +1,11 @@
 -- The greatest number that was seen on a receive association, through calls.
-use Rattle.std.proofs.Common.{◌≡◌, ◌≢◌, ◌≤◌, ◌<◌, ◌⊎◌, ◌^◌, inl, inr, ℕ, List, [], ◌∷◌, Option, Some, None, Ok, Err}
-use Rattle.std.proofs.Common.{refl, sym, ◌∙◌, ap, subst, arith}
+use Rattle.std.proofs.Common.{◌≡◌, ◌≢◌, ◌≤◌, ◌<◌, ◌⊎◌, ◌^◌, ◌∷◌, ◌∙◌, inl, inr, ℕ, List, [], Option, Some, None, Ok}
+use Rattle.std.proofs.Common.{Err, refl, sym, ap, subst, arith, zero, suc, take, drop, get_or}
+use Rattle.std.specs.Prelude.{All}
 use Rattle.std.specs.Option.{option_map}
+use Rattle.std.proofs.lemmas.List.Elements.{All-cons, All-tail}
 use Rattle.macs_fields.proofs.FirstRefusal.{none-first}
+use Rattle.macs_frame.specs.Tag.{pn_of}
 use Rattle.macs_config.specs.Tables.{put, put_at}
 use Rattle.macs_config.specs.declared.command.Command.{Command}
 use Rattle.macs_config.specs.declared.command.Command.TheVariants.{SetValidate, SetReplay, SetSciMode, TxInstall, TxUse}
@@ -18,16 +21,47 @@ use Rattle.macs_endpoint.specs.Lives.{Lives, Transition}
 use Rattle.macs_endpoint.specs.Rooms.{IsBelow, RxStays, SparesRx}
 use Rattle.macs_endpoint.specs.State.{Advanced, AdvancedLong, Advances, Call, Commands, Protected, Protects, Ran}
 use Rattle.macs_endpoint.specs.State.{Received, Receives, Refilled, Refills, RefusedLong, Reply, State, Submits}
-use Rattle.macs_endpoint.specs.State.{Submitted, command_made, no_logs, rx_side}
-use Rattle.macs_endpoint.specs.State.{Rested, Rests}
+use Rattle.macs_endpoint.specs.State.{Submitted, command_made, no_logs, rx_side, Rested, Rests}
 use Rattle.macs_endpoint.specs.Step.{ArriveStep, Step, numbers_after}
 use Rattle.macs_endpoint.specs.Value.{EndpointValue, IsSoundEndpoint, state_of}
 use Rattle.macs_endpoint.specs.declared.fault.ProtectFault.TheVariants as protect
 use Rattle.macs_endpoint.specs.declared.progress.Step.TheVariants.{Idle}
 use Rattle.macs_endpoint.proofs.Changes.{PassesNone, call-changes, no-answer, numbers_after_made}
 use Rattle.macs_endpoint.proofs.Idled.{idle-step}
-use Rattle.macs_endpoint.proofs.PacketNumber.{pn-in-range}
 use Rattle.macs_endpoint.proofs.Rooms.{below-idle, below-refilled}
+
+-- ---- the packet number that a received frame names
+
+abbrev IsOctet : ℕ → Type 0
+IsOctet octet = octet < 2 ^ 8
+
+octet-at : (xs : List ℕ) (i : ℕ) → All IsOctet xs → get_or xs i 0 < 256
+octet-at [] i all = omega arith
+octet-at (x ∷ xs) zero all = let least = all 0 x (omega arith) in omega (arith, least)
+octet-at (x ∷ xs) (suc i) all = octet-at xs i (All-tail IsOctet x xs all)
+
+octets-behind : (n : ℕ) (xs : List ℕ) → All IsOctet xs → All IsOctet (drop n xs)
+octets-behind zero xs all = all
+octets-behind (suc n) [] all = all
+octets-behind (suc n) (x ∷ xs) all = octets-behind n xs (All-tail IsOctet x xs all)
+
+first-octets : (n : ℕ) (xs : List ℕ) → All IsOctet xs → All IsOctet (take n xs)
+first-octets zero xs all = λ k d lt. absurd (omega (arith, lt))
+first-octets (suc n) [] all = all
+first-octets (suc n) (x ∷ xs) all =
+    All-cons IsOctet x (take n xs) (all 0 x (omega arith)) (first-octets n xs (All-tail IsOctet x xs all))
+
+-- four octets are below 2^32
+pn-in-range : (frame : List ℕ) → All IsOctet frame → pn_of frame < 2 ^ 32
+pn-in-range frame all =
+    let four = first-octets 4 (drop 16 frame) (octets-behind 16 frame all) in
+    let a = octet-at (take 4 (drop 16 frame)) 0 four in
+    let b = octet-at (take 4 (drop 16 frame)) 1 four in
+    let c = octet-at (take 4 (drop 16 frame)) 2 four in
+    let d = octet-at (take 4 (drop 16 frame)) 3 four in
+    omega (arith, a, b, c, d)
+
+-- ---- through calls
 
 -- a number was seen that is not below this one
 abbrev IsReached : Option ℕ → ℕ → Type 0

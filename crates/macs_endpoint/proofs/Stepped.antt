@@ -1,6 +1,6 @@
 -- One device call of the work under way: it goes on, is done, or is cut short.
-use Rattle.std.proofs.Common.{◌≡◌, ◌≤◌, ◌+◌, ◌⊎◌, ◌∷◌, inl, inr, ℕ, false, List, length, Option, Some, None, Result, Ok}
-use Rattle.std.proofs.Common.{Err, is_ok, refl, sym, ◌∙◌, ap, subst, arith}
+use Rattle.std.proofs.Common.{◌≡◌, ◌≤◌, ◌+◌, ◌⊎◌, ◌∷◌, ◌∙◌, inl, inr, ℕ, false, List, length, Option, Some, None}
+use Rattle.std.proofs.Common.{Result, Ok, Err, is_ok, refl, sym, ap, subst, arith}
 use Rattle.macs_config.specs.Apply.{IsCommand}
 use Rattle.macs_config.specs.Config.{this_edition}
 use Rattle.macs_config.specs.Identity.{IsIdentity}
@@ -45,8 +45,7 @@ use Rattle.macs_endpoint.proofs.Ended.{kept-held, not_stopped, raised-backed, ra
 use Rattle.macs_endpoint.proofs.Ended.{step-cut, step-done}
 use Rattle.macs_endpoint.proofs.Fitting.{AreAhead, accept-parts, ahead-within, command-ahead, fits-advancing}
 use Rattle.macs_endpoint.proofs.Fitting.{kept-ahead}
-use Rattle.macs_endpoint.proofs.Working.{cut-backed, fits-moments, kept-backed, leads-on}
-use Rattle.macs_endpoint.proofs.Still.{still-on}
+use Rattle.macs_endpoint.proofs.Working.{cut-backed, fits-moments, kept-backed, leads-on, still-on}
 
 -- ---- the call that a step is
 

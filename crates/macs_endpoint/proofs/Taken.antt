@@ -1,6 +1,6 @@
 -- Work that is started, before its first device call or with it, and a command that is refused before.
-use Rattle.std.proofs.Common.{◌≡◌, ◌≤◌, ◌+◌, ◌==◌, inl, inr, ℕ, Bool, true, false, if◌then◌else◌, Option, Some, None}
-use Rattle.std.proofs.Common.{Result, Ok, Err, is_err, OnErr, OnOk, refl, sym, ◌∙◌, ap, subst, arith}
+use Rattle.std.proofs.Common.{◌≡◌, ◌≤◌, ◌+◌, ◌==◌, if◌then◌else◌, ◌∙◌, inl, inr, ℕ, Bool, true, false, Option, Some}
+use Rattle.std.proofs.Common.{None, Result, Ok, Err, is_err, OnErr, OnOk, refl, sym, ap, subst, arith}
 use Rattle.macs_config.specs.Config.{this_edition}
 use Rattle.macs_config.specs.declared.command.Command.{Command}
 use Rattle.macs_disk.specs.Disk as disk
@@ -39,8 +39,7 @@ use Rattle.macs_endpoint.specs.declared.turn.Turn.TheVariants as turn
 use Rattle.macs_endpoint.proofs.Alone.{alone-call}
 use Rattle.macs_endpoint.proofs.Ended.{begun-backed, begun-state, not_stopped}
 use Rattle.macs_endpoint.proofs.Fitting.{fits-advancing}
-use Rattle.macs_endpoint.proofs.Working.{at-rest}
-use Rattle.macs_endpoint.proofs.Still.{still-on, still-same}
+use Rattle.macs_endpoint.proofs.Working.{at-rest, still-on, still-same}
 
 -- ---- what is due next
 

@@ -1,6 +1,6 @@
 -- Work under way: what the disk of an endpoint leaves meanwhile.
 use Rattle.std.proofs.Common.{◌≡◌, ◌≤◌, ◌<◌, ◌^◌, ◌⊎◌, ◌∙◌, [], ℕ, Bool, true, false, inl, inr, List, Option, Some}
-use Rattle.std.proofs.Common.{None, refl, sym, ap, subst, arith}
+use Rattle.std.proofs.Common.{None, refl, sym, ap, subst, arith, Result, Ok, Err}
 use Rattle.std.specs.Prelude.{IsSomeAnd}
 use Rattle.std.specs.Option.{option_map}
 use Rattle.macs_config.specs.Config.{this_edition}
@@ -24,10 +24,16 @@ use Rattle.macs_store.specs.UnderWay.{UnderWay}
 use Rattle.macs_store.proofs.Keeping.{under_way-image}
 use Rattle.macs_endpoint.specs.Ceilings.{Raise, RaiseRx, RaiseTx, standing_with_raise}
 use Rattle.macs_endpoint.specs.Restart.{Fits, rx_limit}
-use Rattle.macs_endpoint.specs.State.{Logs, State}
+use Rattle.macs_endpoint.specs.State.{Logs, State, Advanced, Advances}
 use Rattle.macs_endpoint.specs.Value.{AreChannels, EndpointValue, IsAtRest, IsBacked, IsKeeping, IsRaiseWithin}
 use Rattle.macs_endpoint.specs.Value.{IsReserving, IsRxRaiseWithin, IsRxWithin, IsSoundEndpoint, IsTxRaiseWithin}
 use Rattle.macs_endpoint.specs.Value.{IsTxWithin, disk_in, is_stopped, state_of}
+use Rattle.macs_endpoint.specs.Advancing.{GoesOn}
+use Rattle.macs_endpoint.specs.Limits.{IsStill}
+use Rattle.macs_endpoint.specs.declared.fault.StepFault.{StepFault}
+use Rattle.macs_endpoint.specs.declared.fault.StepFault.TheVariants as step
+use Rattle.macs_endpoint.specs.declared.progress.Step.{Step as Progress}
+use Rattle.macs_endpoint.specs.declared.progress.Step.TheVariants.{Done, Idle, Reserved, Worked}
 use Rattle.macs_endpoint.proofs.Fitting.{AreAhead, fits-ahead, fits-commit, kept-ahead, standing_with}
 
 -- ---- a ceiling that is being raised
@@ -233,3 +239,30 @@ module _ {D : Type 0} (e : EndpointValue D) (kept : IsSoundEndpoint e) where
       form = λ image left.
           (Leaves-now (disk_in disk_of e) (disk_in disk_of cut) (StandsForEither before after) leaves image left).1;
     }
+
+-- ---- steps that leave the store as it was, and steps that make a device call
+
+-- nothing is said of the store where work under way goes on
+pub still-on : {D : Type 0} (e before new : EndpointValue D) (result : Result Progress StepFault)
+    → GoesOn before result new
+    → IsStill e Advances (Advanced result) new
+still-on e before new (Ok Idle) goes = absurd goes
+still-on e before new (Ok Worked) goes = tt
+still-on e before new (Ok Reserved) goes = tt
+still-on e before new (Ok (Done ticket (Ok done))) goes = tt
+still-on e before new (Ok (Done ticket (Err at))) goes = absurd goes
+still-on e before new (Err step.Stopped) goes = absurd goes
+still-on e before new (Err step.GenerationsSpent) goes = absurd goes
+still-on e before new (Err step.Disk) goes = tt
+
+-- the store is as it was
+pub still-same : {D : Type 0} (e new : EndpointValue D) (result : Result Progress StepFault) → new.store ≡ e.store
+    → IsStill e Advances (Advanced result) new
+still-same e new (Ok Idle) same = tt
+still-same e new (Ok Worked) same = tt
+still-same e new (Ok Reserved) same = tt
+still-same e new (Ok (Done ticket (Ok done))) same = tt
+still-same e new (Ok (Done ticket (Err at))) same = same
+still-same e new (Err step.Stopped) same = same
+still-same e new (Err step.GenerationsSpent) same = same
+still-same e new (Err step.Disk) same = tt

@@ -13,7 +13,6 @@ pub mod Advancing
 pub mod Counting
 pub mod Following
 pub mod Calls
-pub mod PrivateTypes
 pub mod Parts
 pub mod RefillCosts
 pub mod Reserving

@@ -11,7 +11,7 @@ ghost use Rattle.macs_store.specs.Value.{standing_in};
 ghost use Rattle.macs_store.specs.Standing.{Standing, accept};
 ghost use Rattle.macs_endpoint.specs.Ceilings.{standing_with_raise};
 ghost use Rattle.macs_endpoint.specs.Following.{Follows, is_of_rx};
-ghost use Rattle.macs_endpoint.specs.PrivateTypes.{raise_of};
+ghost use Rattle.macs_endpoint.specs.Parts.{raise_of};
 ghost use Rattle.macs_endpoint.specs.Value.{AreChannels, IsRaiseWithin};
 
 use crate::refilling::Raise;

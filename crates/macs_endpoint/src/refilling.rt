@@ -11,7 +11,7 @@ ghost use Rattle.macs_endpoint.specs.Needed.{raise_in};
 ghost use Rattle.macs_endpoint.specs.Reserving.{Raised, ReservationEnds, ReservesAll, StartsRaise};
 ghost use Rattle.macs_endpoint.specs.RefillCosts.{Spends};
 ghost use Rattle.macs_endpoint.specs.State.{Refilled, Refills};
-ghost use Rattle.macs_endpoint.specs.PrivateTypes.{raise_of};
+ghost use Rattle.macs_endpoint.specs.Parts.{raise_of};
 ghost use Rattle.macs_endpoint.specs.Value.{IsAtRest, IsReserving, is_stopped};
 
 use crate::endpoint::Endpoint;

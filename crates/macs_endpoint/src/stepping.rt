@@ -7,7 +7,7 @@ ghost use Rattle.macs_endpoint.specs.Advancing.{CallsAtOnce, ToKeep, ToRaise, ne
 ghost use Rattle.macs_endpoint.specs.Calls.{IsCall, IsStep};
 ghost use Rattle.macs_endpoint.specs.Halves.{Awaits, HasBegun};
 ghost use Rattle.macs_endpoint.specs.KeptCommands.{StartsFirst};
-ghost use Rattle.macs_endpoint.specs.PrivateTypes.{due_of, raise_of};
+ghost use Rattle.macs_endpoint.specs.Parts.{due_of, raise_of};
 ghost use Rattle.macs_endpoint.specs.Queue.{first_waiting};
 ghost use Rattle.macs_endpoint.specs.State.{Advanced, Advances, Submits, Submitted};
 ghost use Rattle.macs_endpoint.specs.Value.{device_in, is_stopped};

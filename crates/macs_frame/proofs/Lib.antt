@@ -1,7 +1,6 @@
 pub mod ClearEnd
 pub mod Readings
 pub mod Protection
-pub mod OpenedInPlace
 pub mod SealedInPlace
 pub mod WrittenTag
 pub mod OpenFaults

@@ -1,15 +1,14 @@
 -- Work on what is under way at the end of a life began in a call that may begin it, and it is accepted.
-use Rattle.std.proofs.Common.{◌≡◌, inl, inr, ℕ, List, [], ◌∷◌, Option, Some, None, refl, sym, ◌∙◌, ap, subst}
+use Rattle.std.proofs.Common.{◌≡◌, ◌∷◌, ◌∙◌, inl, inr, ℕ, List, [], Option, Some, None, refl, sym, ap, subst}
 use Rattle.macs_config.specs.declared.command.Command.{Command}
 use Rattle.macs_endpoint.specs.Queue.{first_command}
 use Rattle.macs_endpoint.specs.Restart.{opened_state}
 use Rattle.macs_endpoint.specs.declared.queue.Waiting.{Waiting}
 use Rattle.macs_endpoint.specs.State.{Call, Commands, Reply, State, state_with_under_way}
 use Rattle.macs_endpoint.specs.Step.{Exchange, Step, Steps, TakesUp}
-use Rattle.macs_headline.specs.CommandUnderWay.{UnderWayWasBegun, MayBegin, WasBegun}
-use Rattle.macs_headline.specs.Commands.{waiting_at_end}
+use Rattle.macs_headline.specs.Commands.{MayBegin, WasBegun, refusal_at, waiting_at_end}
 use Rattle.macs_headline.specs.History.{logs_of, state_at_end}
-use Rattle.macs_headline.specs.Refused.{refusal_at}
+use Rattle.macs_headline.specs.Moments.{Moment}
 use Rattle.macs_headline.proofs.Accepted.{no-refusal}
 use Rattle.macs_headline.proofs.Changes.{Begins, BeginsAndStops, Breaks, Change, Completes, Delivers, Drops, HoldsBack}
 use Rattle.macs_headline.proofs.Changes.{Obeys, Queues, Sends, Stays, Stops, change-of}
@@ -92,7 +91,9 @@ module _ (exchanges : List Exchange) (s : State) (waits : s.waiting ≡ waiting_
         accepted = no-refusal s.edition s.identity s.config d taken.accepts;
       }))
 
-pub under-way-was-begun : (sectors : ℕ) → UnderWayWasBegun sectors
+-- what is under way at any moment at which a life ends, inside a call or not, was begun
+pub under-way-was-begun : (sectors : ℕ) (last : State) (m : Moment sectors last) (cut : Option Call)
+    (command : Command) → (state_at_end last cut).under_way ≡ Some command → WasBegun m.exchanges last cut command
 under-way-was-begun sectors last m cut command is =
     let begun = opened_state m.life.found (logs_of m.past) in
     at_end m.exchanges last (waits-from [] begun m.exchanges last refl m.life.steps)

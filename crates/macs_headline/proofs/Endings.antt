@@ -1,13 +1,12 @@
 -- Each way in which a program may end passes the medium of its disk on.
-use Rattle.std.proofs.Common.{◌≡◌, ◌&&◌, not, cond, ℕ, Bool, true, false, List, Result, Ok, Err, refl, sym, ◌∙◌, ap}
-use Rattle.std.proofs.Common.{subst, le_refl}
-use Rattle.macs_disk.specs.Disk.{Disk, IsDeviceCall, IsHonest, now}
+use Rattle.std.proofs.Common.{◌≡◌, ◌≤◌, ◌&&◌, ◌∙◌, not, cond, ℕ, Bool, true, false, List, Result, Ok, Err, refl, sym}
+use Rattle.std.proofs.Common.{ap, subst, le_refl}
+use Rattle.macs_disk.specs.Disk.{Disk, IsDeviceCall, IsHonest, now, Works}
 use Rattle.macs_disk.specs.States.{DiskState, Image, IsImage, IsSector, IsSound}
 use Rattle.macs_disk.specs.declared.disk.DeviceFault.{DeviceFault}
 use Rattle.macs_headline.specs.Deeds.{IsPassedOn}
-use Rattle.macs_headline.specs.Endings.{DroppedPassOn, EndsAreEarlier, ImagesAreWhole, KillingsPassOn, LossesSettle}
-use Rattle.macs_headline.specs.Endings.{PowerLossesPassOn, ReadsPassOn, SyncsPassOn}
-use Rattle.macs_headline.specs.Endings.{WrittenBackPassOn, state_written_back}
+use Rattle.macs_headline.specs.Endings.{DroppedPassOn, ImagesAreWhole, KillingsPassOn, LossesSettle, PowerLossesPassOn}
+use Rattle.macs_headline.specs.Endings.{ReadsPassOn, SyncsPassOn, WrittenBackPassOn, state_written_back}
 use Rattle.macs_headline.proofs.Losses.{settled-passed}
 
 pub power-losses-pass-on : PowerLossesPassOn
@@ -28,7 +27,9 @@ pub dropped-pass-on : DroppedPassOn
 dropped-pass-on old new alike same =
     killings-pass-on old new old.clock old.clock (le_refl old.clock) (le_refl old.clock) alike same
 
-pub ends-are-earlier : EndsAreEarlier
+-- what ended in calls that came before others ended in the earlier ones: each end fits the work of its own moment
+pub ends-are-earlier : (old ran new : Disk) (since : ℕ) → Works old ran → (p : IsPassedOn ran since new) → (from : ℕ)
+    → from ≤ p.moment → p.moment ≤ old.clock → IsPassedOn old from new
 ends-are-earlier old ran new since works passed from later within = record {
   moment = passed.moment;
   later = later;

@@ -25,14 +25,13 @@ use Rattle.macs_journal.specs.Value.{IsHolding}
 use Rattle.macs_journal.proofs.Appends.{finds-but-body}
 use Rattle.macs_store.specs.Snapshot.{settings_record}
 use Rattle.macs_headline.specs.Deeds.{IsPassedOn}
-use Rattle.macs_headline.specs.Example.{own_sa}
+use Rattle.macs_headline.specs.Example.{own_sa, served_config}
 use Rattle.macs_headline.specs.ExampleCuts.{IsOneCall, IsRun, Write, append_under_way, append_states, body_writes}
 use Rattle.macs_headline.specs.ExampleCuts.{compacting_disk, compaction_under_way, disk_through, killed_disk}
 use Rattle.macs_headline.specs.ExampleCuts.{place_behind, state_after_writes, torn_image, widening_disk, working_disk}
 use Rattle.macs_headline.specs.ExampleDisk.{compacted_content, checked, cut_image, ended_content, narrow_content}
 use Rattle.macs_headline.specs.ExampleDisk.{narrow_image, full_content, full_image, full_snapshot, last_content}
 use Rattle.macs_headline.specs.ExampleDisk.{last_image, served_content, served_image, widened}
-use Rattle.macs_headline.specs.ExampleStanding.{served_config}
 use Rattle.macs_headline.specs.Images.{image_with_area, image_with_bodies, image_with_next_body, image_with_record}
 use Rattle.macs_headline.proofs.Built.{closed-gate}
 use Rattle.macs_headline.proofs.ExampleCompaction.{compacting, last-is}

@@ -9,8 +9,8 @@ use Rattle.macs_rxsc.specs.Receive.{Numbers, first_numbers, numbers_after_delive
 use Rattle.macs_store.specs.Standing.{no_ceilings}
 use Rattle.macs_endpoint.specs.Restart.{Fits, RxRises, TxRises}
 use Rattle.macs_headline.specs.Example.{check_only, example_identity, example_sectors, peer_sci, widen}
+use Rattle.macs_headline.specs.Example.{checked_standing, full_standing, last_standing, served_config}
 use Rattle.macs_headline.specs.ExampleDisk.{cut_image, ended_content, last_content, last_image, new_image, served_image}
-use Rattle.macs_headline.specs.ExampleStanding.{checked_standing, full_standing, last_standing, served_config}
 use Rattle.macs_headline.specs.History.{formatted_state}
 use Rattle.macs_headline.proofs.ExampleImages.{checked-is, cut-is, last-found, last-is, new-is, served-is}
 use Rattle.macs_headline.proofs.ExampleImages.{served_standing}

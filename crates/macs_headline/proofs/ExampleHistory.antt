@@ -20,10 +20,10 @@ use Rattle.macs_endpoint.specs.Step.{Exchange, Step, Steps}
 use Rattle.macs_headline.specs.Example.{add_peer, check_only, example_identity, example_plain, example_sectors, guard}
 use Rattle.macs_headline.specs.Example.{install_own_again, install_peer_again, later_edition, own_key, own_sa}
 use Rattle.macs_headline.specs.Example.{peer_frame, peer_key, peer_sa, peer_sci, remove_peer, stay_strict, widen}
+use Rattle.macs_headline.specs.Example.{checked_standing, full_standing, last_standing, served_config}
 use Rattle.macs_headline.specs.ExampleCuts.{append_under_way, killed_disk, place_behind}
 use Rattle.macs_headline.specs.ExampleDisk.{checked, cut_image, ended_content, ended_image, last_content, last_image}
 use Rattle.macs_headline.specs.ExampleDisk.{new_image, served_image}
-use Rattle.macs_headline.specs.ExampleStanding.{checked_standing, full_standing, last_standing, served_config}
 use Rattle.macs_headline.specs.ExampleLives.{IsWorkedHistory, early_lives, example_lives, first_exchanges}
 use Rattle.macs_headline.specs.ExampleLives.{fourth_exchanges, last_exchanges, obeyed, second_exchanges}
 use Rattle.macs_headline.specs.ExampleLives.{third_exchanges}

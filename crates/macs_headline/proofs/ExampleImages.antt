@@ -36,12 +36,12 @@ use Rattle.macs_store.specs.Standing.{no_ceilings}
 use Rattle.macs_store.proofs.Snapshots.{snapshot-stands}
 use Rattle.macs_headline.specs.Example.{add_peer, example_identity, example_sectors, install_own, install_peer}
 use Rattle.macs_headline.specs.Example.{later_edition, narrow, own_sa, peer_sa, peer_sci, remove_peer, use_own, widen}
+use Rattle.macs_headline.specs.Example.{checked_standing, full_standing, last_standing, served_config}
 use Rattle.macs_headline.specs.ExampleDisk.{compacted_content, later_image, checked, cut_image, ended_content}
 use Rattle.macs_headline.specs.ExampleDisk.{ended_image}
 use Rattle.macs_headline.specs.ExampleDisk.{narrow_content, narrow_image, first_records, full_content, full_image}
 use Rattle.macs_headline.specs.ExampleDisk.{full_snapshot, last_content, last_image, new_content, new_image}
 use Rattle.macs_headline.specs.ExampleDisk.{second_records, served_content, served_image, third_records, widened}
-use Rattle.macs_headline.specs.ExampleStanding.{checked_standing, full_standing, last_standing, served_config}
 use Rattle.macs_headline.specs.Images.{blank_image, image_while_formatted, image_with_next_body}
 use Rattle.macs_headline.proofs.Built.{area-other, closed-gate, opened-found, opened-other, record-found, records-found}
 use Rattle.macs_headline.proofs.Built.{records-other}

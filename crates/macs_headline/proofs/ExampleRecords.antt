@@ -19,8 +19,8 @@ use Rattle.macs_record.specs.declared.record.Record.TheVariants as kept
 use Rattle.macs_journal.specs.Formatting.{first_head}
 use Rattle.macs_store.specs.Snapshot.{rx_records, rx_records_of, settings_record, snapshot, spent_records, tx_records}
 use Rattle.macs_headline.specs.Example.{example_identity, own_key, own_sa, own_sci, peer_key, peer_sa, peer_sci}
+use Rattle.macs_headline.specs.Example.{served_config}
 use Rattle.macs_headline.specs.ExampleDisk.{first_records, full_snapshot, second_records, third_records, widened}
-use Rattle.macs_headline.specs.ExampleStanding.{served_config}
 use Rattle.macs_headline.proofs.Lists.{each-same}
 
 -- ---- octets

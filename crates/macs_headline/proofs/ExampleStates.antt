@@ -13,7 +13,7 @@ use Rattle.macs_endpoint.specs.Step.{state_with_waiting, state_without_first}
 use Rattle.macs_endpoint.specs.declared.queue.Waiting.{Waiting}
 use Rattle.macs_headline.specs.Example.{add_peer, check_only, example_identity, install_own, guard, install_peer}
 use Rattle.macs_headline.specs.Example.{later_edition, narrow, own_sa, remove_peer, unguard, use_own, widen}
-use Rattle.macs_headline.specs.ExampleStanding.{checked_standing, full_standing, last_standing, served_config}
+use Rattle.macs_headline.specs.Example.{checked_standing, full_standing, last_standing, served_config}
 use Rattle.macs_headline.proofs.ExampleFrames.{arrival}
 use Rattle.macs_headline.proofs.ExampleImages.{served_standing}
 

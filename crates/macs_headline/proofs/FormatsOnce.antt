@@ -2,7 +2,7 @@
 use Rattle.std.proofs.Common.{inl, inr, ℕ, true, List, [], ◌∷◌, ◌++◌, refl, sym, subst}
 use Rattle.macs_config.specs.Config.{Edition}
 use Rattle.macs_config.specs.Identity.{Identity}
-use Rattle.macs_headline.specs.Formats.{AreUnformatted, FormatsOnce, RefusedByHistory}
+use Rattle.macs_headline.specs.Openings.{AreUnformatted, FormatsOnce, RefusedByHistory}
 use Rattle.macs_headline.specs.History.{Blank, FormatLeads, Formats, Formatted, IsHistory, LeadOn, Life, Past, Serves}
 use Rattle.macs_headline.proofs.Openings.{refused-for-disk-or-blank, refused-for-disk-or-spent}
 use Rattle.macs_headline.proofs.Refusals.{IsFormatted, formatted-by}

@@ -19,7 +19,6 @@ pub mod Commands
 pub mod FoundOnce
 pub mod HandedIn
 pub mod FramesRead
-pub mod ShortLengths
 pub mod Ranges
 pub mod Deliveries
 pub mod CommandUnderWay
@@ -48,6 +47,5 @@ pub mod ExampleStates
 pub mod ExampleFits
 pub mod ExampleHistory
 pub mod ExampleMigration
-pub mod ExampleBeginning
 mod DiskFiles
 pub mod PlayedLosses

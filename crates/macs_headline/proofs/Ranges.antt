@@ -43,9 +43,8 @@ use Rattle.macs_headline.proofs.Changes.{Obeys, Queues, Sends, Stays, Stops, cha
 use Rattle.macs_headline.proofs.Accepted.{NoTest, accepted, no-test, right-mode, right-start, tx_of}
 use Rattle.macs_headline.proofs.LifeEnds.{by-end}
 use Rattle.macs_headline.proofs.Effects.{outgoing_is}
-use Rattle.macs_headline.proofs.FramesRead.{frame-bits, frame-named, frame-read, own-source}
+use Rattle.macs_headline.proofs.FramesRead.{frame-bits, frame-named, frame-read, own-source, short-length}
 use Rattle.macs_headline.proofs.Histories.{fits-restart, found-new}
-use Rattle.macs_headline.proofs.ShortLengths.{short-length}
 
 -- a next packet number
 abbrev IsNext : ℕ → Type 0

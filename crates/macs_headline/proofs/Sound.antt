@@ -1,5 +1,5 @@
 -- What holds of every state of every life: through calls, and through restarts.
-use Rattle.std.proofs.Common.{◌≡◌, ◌≤◌, ◌+◌, ◌/◌, inl, inr, ℕ, refl, sym, ap, subst, arith, List, [], ◌∷◌}
+use Rattle.std.proofs.Common.{◌≡◌, ◌≤◌, ◌+◌, ◌/◌, ◌∷◌, inl, inr, ℕ, refl, sym, ap, subst, arith, List, []}
 use Rattle.std.specs.Prelude.{Option, Some, None}
 use Rattle.std.specs.Option.{option_map}
 use Rattle.macs_config.specs.Config.{Edition, tx_fingerprint}
@@ -9,14 +9,13 @@ use Rattle.macs_endpoint.specs.State.{Call, State}
 use Rattle.macs_endpoint.specs.Step.{Exchange, Steps}
 use Rattle.macs_endpoint.specs.Restart.{Restart, Resumes, RxRises, TxRises}
 use Rattle.macs_headline.specs.History.{formatted_state, state_at_end}
-use Rattle.macs_headline.specs.Windows.{IsWithinWindow}
 use Rattle.macs_headline.proofs.Lists.{contains-none, pairs-none}
 use Rattle.macs_headline.proofs.Ledger.{ledger-kept, some_one}
 use Rattle.macs_headline.proofs.LifeEnds.{by-end}
 use Rattle.macs_headline.proofs.Effects.{Commanded, Core, Effect, core, effect-of}
 use Rattle.macs_headline.proofs.Sent.{IsSoundTx, IsUsed, tx-effect, tx_keys}
 use Rattle.macs_headline.proofs.Given.{IsGiven, IsSoundRx, given-effect, print_of, rx_bounds, rx_keys}
-use Rattle.macs_headline.proofs.Windows.{IsSoundWindow, window-effect}
+use Rattle.macs_headline.proofs.Windows.{IsSoundWindow, IsWithinWindow, window-effect}
 
 pub record IsSound (c : Core) : Type 0 where
   pub tx : IsSoundTx c

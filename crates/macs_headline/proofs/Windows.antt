@@ -1,5 +1,5 @@
 -- The lowest number is not above the next one, and no further below it than the window.
-use Rattle.std.proofs.Common.{◌≡◌, ◌≤◌, inl, inr, ℕ, refl, sym, ◌∙◌, ap, subst, arith, List}
+use Rattle.std.proofs.Common.{◌≡◌, ◌≤◌, ◌+◌, ◌∙◌, inl, inr, ℕ, refl, sym, ap, subst, arith, List}
 use Rattle.std.specs.Prelude.{Option, Some, None}
 use Rattle.std.specs.Option.{option_map}
 use Rattle.macs_config.specs.Apply.{config_after}
@@ -9,12 +9,16 @@ use Rattle.macs_config.specs.declared.command.Command.{Command}
 use Rattle.macs_config.specs.declared.command.Command.TheVariants.{RxDrop, RxInstall, RxRemove, SetReplay}
 use Rattle.macs_rxsc.specs.Receive.{Numbers, first_numbers, numbers_after_delivery, numbers_after_hold}
 use Rattle.macs_rxsc.specs.Receive.{numbers_under_window}
-use Rattle.macs_headline.specs.Windows.{IsWithinWindow}
 use Rattle.macs_headline.proofs.Ledger.{some_one}
 use Rattle.macs_headline.proofs.Places.{cases_place, cases_sci, put_at-that, put_at-this, put_rx, put_rx-that}
 use Rattle.macs_headline.proofs.Places.{put_rx-this}
 use Rattle.macs_headline.proofs.Accepted.{accepted}
 use Rattle.macs_headline.proofs.Effects.{Commanded, Core, Effect, Given, Held, NoEffect, Sent, core_after_command}
+
+-- The lowest acceptable number is at most the next one, and no further below it than the window (IEEE Std 802.1AE-2018,
+-- 10.6).
+abbrev pub IsWithinWindow : ℕ → Numbers → Type 0
+IsWithinWindow window n = (n.lowest ≤ n.next) × (n.next ≤ n.lowest + window)
 
 -- that of each association
 abbrev pub AreWithinWindow : ℕ → (List ℕ → ℕ → Option Numbers) → Type 0

@@ -1,7 +1,7 @@
 -- The headline on commands.
 use Rattle.std.specs.Prelude.{◌≡◌, ◌⊎◌, ◌==◌, ◌++◌, if◌then◌else◌, ℕ, List, [], ◌∷◌, Contains, option_to_list, Option}
-use Rattle.std.specs.Prelude.{Some, None, Ok, Err}
-use Rattle.macs_config.specs.Apply.{apply}
+use Rattle.std.specs.Prelude.{Some, None, Ok, Err, false}
+use Rattle.macs_config.specs.Apply.{apply, Reason, refusal_of}
 use Rattle.macs_config.specs.Config.{Config, Edition}
 use Rattle.macs_config.specs.Identity.{Identity}
 use Rattle.macs_config.specs.declared.command.Command.{Command}
@@ -132,3 +132,23 @@ CommandsKept sectors =
     (last : State) (m : Moment sectors last) (cut : Option Call) (later : Edition) (image : Image) (after : Standing)
     → Fits later sectors image (state_at_end last cut) → StandingIs later sectors image (Ok after)
     → FindsPrefix m.life.found m.exchanges (state_at_end last cut).under_way after
+
+-- ---- the command under way: when work on it may have begun, and that it is accepted
+
+-- the first reason to refuse a command in this state, if there is one
+abbrev pub refusal_at : State → Command → Option Reason
+refusal_at s command = refusal_of s.edition s.identity s.config command
+
+-- Work on the command may begin in this call, with these pending: in a step, on the first of them; and in `command`, on
+-- the one that it is given, if none is pending. In no other call.
+abbrev pub MayBegin : Option Call → List Waiting → Command → Type 0
+MayBegin (Some Advances) waiting command = first_command waiting ≡ Some command
+MayBegin (Some (Commands given)) [] command = given ≡ command
+MayBegin cut waiting command = ⊥
+
+-- A command was under way after the last answer, or work on it may have begun in the interrupted call, of an endpoint
+-- that is not stopped; and there is no reason to refuse it.
+pub record WasBegun (exchanges : List Exchange) (last : State) (cut : Option Call) (command : Command) : Type 0 where
+  pub begun : (last.under_way ≡ Some command)
+      ⊎ ((last.stopped ≡ false) × MayBegin cut (waiting_at_end exchanges) command)
+  pub accepted : refusal_at last command ≡ None

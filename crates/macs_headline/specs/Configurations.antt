@@ -1,17 +1,33 @@
 -- The headline on configurations: what is found after all lives, starting with the first configuration.
-use Rattle.std.specs.Prelude.{◌≡◌, ℕ, true, List, [], ◌∷◌, Contains, Option, Some, Ok}
+use Rattle.std.specs.Prelude.{◌≡◌, ◌∷◌, ℕ, true, List, [], Contains, Option, Some, None, Ok}
 use Rattle.macs_config.specs.Config.{Config, Edition, default}
 use Rattle.macs_config.specs.Identity.{Identity}
 use Rattle.macs_config.specs.declared.command.Command.{Command}
+use Rattle.macs_config.specs.declared.command.SciMode.TheVariants.{Explicit}
+use Rattle.macs_config.specs.declared.command.Validate.TheVariants.{Strict}
 use Rattle.macs_disk.specs.States.{Image}
 use Rattle.macs_store.specs.Found.{StandingIs}
 use Rattle.macs_store.specs.Standing.{Standing}
 use Rattle.macs_endpoint.specs.State.{Call, State}
 use Rattle.macs_endpoint.specs.Step.{Exchange}
-use Rattle.macs_headline.specs.CommandUnderWay.{WasBegun}
-use Rattle.macs_headline.specs.Commands.{CommandsMake, IsPrefix, WasHandedIn, accepted_commands, acknowledged_commands}
+use Rattle.macs_headline.specs.Commands.{WasBegun, CommandsMake, IsPrefix, WasHandedIn, accepted_commands}
+use Rattle.macs_headline.specs.Commands.{acknowledged_commands}
 use Rattle.macs_headline.specs.History.{Formats, Life, Past, Refuses, Serves, state_at_end}
 use Rattle.macs_headline.specs.Moments.{IsFoundAfter, Moment}
+
+-- Validation is strict, replay protection is on with window 0, SecTAGs have an explicit SCI, and there is no
+-- association, no receive channel and no spent key.
+pub record IsFirstConfiguration : Type 0 where
+  pub validate : default.validate ≡ Strict
+  pub on : default.replay.on ≡ true
+  pub window : default.replay.window ≡ 0
+  pub mode : default.mode ≡ Explicit
+  pub encoding : default.encoding ≡ None
+  pub tx : (an : ℕ) → default.tx an ≡ None
+  pub channels : default.channels ≡ []
+  pub rx : (sci : List ℕ) (an : ℕ) → default.rx sci an ≡ None
+  pub spent_tx : default.spent_tx ≡ []
+  pub spent_rx : default.spent_rx ≡ []
 
 -- The commands of a life that are kept: a prefix of those that were accepted which contains every acknowledged one. The
 -- one under way is the one at its end, which comes after a moment of some history, with this edition, this image and

@@ -1,8 +1,7 @@
 -- The ways in which a program may end, each of which passes the medium of its disk on.
-use Rattle.std.specs.Prelude.{◌≡◌, ◌≤◌, ◌<◌, ◌^◌, ◌&&◌, not, if◌then◌else◌, ℕ, Bool, true, false, List, length, get_or}
+use Rattle.std.specs.Prelude.{◌≡◌, ◌≤◌, ◌<◌, ◌^◌, ◌&&◌, if◌then◌else◌, not, ℕ, Bool, true, false, List, length, get_or}
 use Rattle.std.specs.Prelude.{Result}
-use Rattle.macs_disk.specs.Disk.{Disk, IsDeviceCall, IsHonest, LeftSince, Reads, Syncs, Works}
-use Rattle.macs_disk.specs.Disk.{now}
+use Rattle.macs_disk.specs.Disk.{Disk, IsDeviceCall, IsHonest, LeftSince, Reads, Syncs, now}
 use Rattle.macs_disk.specs.States.{DiskState, Image, IsImage, settled_state}
 use Rattle.macs_disk.specs.declared.disk.DeviceFault.{DeviceFault}
 use Rattle.macs_headline.specs.Deeds.{IsPassedOn}
@@ -72,9 +71,3 @@ LossesSettle = (ran new : Disk) (since : ℕ) → LosesPower ran since new
 abbrev pub ImagesAreWhole : Type 0
 ImagesAreWhole = (state : DiskState) (image : Image) → IsImage state image → (i : ℕ) → state.pending i ≡ true
     → (length (image i) ≡ 512) × ((k : ℕ) → get_or (image i) k 0 < 2 ^ 8)
-
--- What ended in calls that came before others ended in the earlier ones: each end fits the work of its own moment.
-abbrev pub EndsAreEarlier : Type 0
-EndsAreEarlier = (old ran new : Disk) (since : ℕ) → Works old ran → (p : IsPassedOn ran since new) → (from : ℕ)
-    → from ≤ p.moment → p.moment ≤ old.clock
-    → IsPassedOn old from new

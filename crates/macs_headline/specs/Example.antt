@@ -1,12 +1,13 @@
--- The setting of an example history: an endpoint, its peer, and the commands.
-use Rattle.std.specs.Prelude.{ℕ, true, false, List, [], ◌∷◌, replicate}
+-- The setting of an example history: an endpoint, its peer, the commands, and the standings.
+use Rattle.std.specs.Prelude.{◌∷◌, ℕ, true, false, List, [], replicate, fold, Some}
 use Rattle.macs_frame.specs.Protection.{protected_frame}
 use Rattle.macs_fields.specs.declared.fields.Offset.TheVariants.{Zero}
 use Rattle.macs_frame.specs.declared.tag.ScName.TheVariants.{Explicit}
 use Rattle.macs_frame.specs.declared.tag.SecTag.{SecTag}
 use Rattle.macs_aes.specs.declared.keys.Key.TheVariants.{Long, Short}
-use Rattle.macs_config.specs.Config.{Edition}
+use Rattle.macs_config.specs.Config.{Edition, Config, default, this_edition}
 use Rattle.macs_config.specs.Identity.{Identity}
+use Rattle.macs_config.specs.Apply.{config_after}
 use Rattle.macs_config.specs.declared.association.Protection.TheVariants.{Confidentiality}
 use Rattle.macs_config.specs.declared.association.RxSa.{RxSa}
 use Rattle.macs_config.specs.declared.association.TxSa.{TxSa}
@@ -14,6 +15,7 @@ use Rattle.macs_config.specs.declared.command.Command.{Command}
 use Rattle.macs_config.specs.declared.command.Command.TheVariants.{RxAdd, RxInstall, RxRemove, SetReplay, SetValidate}
 use Rattle.macs_config.specs.declared.command.Command.TheVariants.{TxInstall, TxUse}
 use Rattle.macs_config.specs.declared.command.Validate.TheVariants.{Check, Strict}
+use Rattle.macs_store.specs.Standing.{Standing, ceilings_with_rx, ceilings_with_tx, no_ceilings}
 
 -- how many sectors the disk has
 abbrev pub example_sectors : ℕ
@@ -126,3 +128,32 @@ stay_strict = SetValidate Strict
 -- another mode of validation
 abbrev pub check_only : Command
 check_only = SetValidate Check
+
+-- ---- the standings
+
+-- the configuration after the first life, including the interrupted command
+abbrev pub served_config : Config
+served_config = fold config_after default (install_own ∷ use_own ∷ add_peer ∷ install_peer ∷ narrow ∷ widen ∷ [])
+
+-- the standing when the second life ends, in a program of this edition
+abbrev pub full_standing : Standing
+full_standing = record {
+  edition = this_edition;
+  identity = example_identity;
+  config = served_config;
+  ceilings = ceilings_with_rx (ceilings_with_tx no_ceilings 0 (Some 13)) peer_sci 0 (Some 9);
+}
+
+-- the standing when the third life ends, to an edition
+abbrev pub last_standing : Edition → Standing
+last_standing edition = record {
+  edition = edition;
+  identity = example_identity;
+  config = config_after served_config remove_peer;
+  ceilings = ceilings_with_tx no_ceilings 0 (Some 17);
+}
+
+-- and finally, with the command in which the program was killed
+abbrev pub checked_standing : Edition → Standing
+checked_standing edition =
+    record (last_standing edition) { config = config_after (config_after served_config remove_peer) check_only }

@@ -8,8 +8,7 @@ use Rattle.macs_journal.specs.Compacting.{compacted}
 use Rattle.macs_journal.specs.Formatting.{first_content}
 use Rattle.macs_journal.specs.Found.{Content, content_with_record}
 use Rattle.macs_store.specs.Snapshot.{snapshot}
-use Rattle.macs_headline.specs.Example.{example_identity, own_sa, peer_sa, peer_sci}
-use Rattle.macs_headline.specs.ExampleStanding.{full_standing}
+use Rattle.macs_headline.specs.Example.{example_identity, own_sa, peer_sa, peer_sci, full_standing}
 use Rattle.macs_headline.specs.Images.{compacted_image, content_with_records, formatted_image, image_while_compacted}
 use Rattle.macs_headline.specs.Images.{image_with_record, image_with_records}
 

@@ -29,14 +29,14 @@ use Rattle.macs_endpoint.specs.declared.progress.Step.TheVariants.{Done, Reserve
 use Rattle.macs_headline.specs.Example.{add_peer, check_only, example_identity, example_plain, example_sectors, guard}
 use Rattle.macs_headline.specs.Example.{install_own, install_own_again, install_peer, install_peer_again, later_edition}
 use Rattle.macs_headline.specs.Example.{narrow, own_frame, own_key, peer_frame, peer_key, peer_sci, remove_peer}
-use Rattle.macs_headline.specs.Example.{stay_strict, unguard, use_own, widen}
+use Rattle.macs_headline.specs.Example.{stay_strict, unguard, use_own, widen, checked_standing, full_standing}
+use Rattle.macs_headline.specs.Example.{last_standing}
 use Rattle.macs_headline.specs.ExampleCuts.{IsRun, append_under_way, compacting_disk, compaction_under_way, killed_disk}
 use Rattle.macs_headline.specs.ExampleCuts.{place_behind, torn_image, widening_disk, working_disk}
 use Rattle.macs_headline.specs.ExampleDisk.{compacted_content, later_image, checked, cut_image, ended_content}
 use Rattle.macs_headline.specs.ExampleDisk.{ended_image}
 use Rattle.macs_headline.specs.ExampleDisk.{narrow_content, narrow_image, full_content, last_content, last_image}
 use Rattle.macs_headline.specs.ExampleDisk.{new_image, served_content, served_image, widened}
-use Rattle.macs_headline.specs.ExampleStanding.{checked_standing, full_standing, last_standing}
 use Rattle.macs_headline.specs.Binding.{HasHistory}
 use Rattle.macs_headline.specs.Deeds.{IsPassedOn}
 use Rattle.macs_headline.specs.History.{Formats, Formatted, IsHistory, Life, Refuses, Serves}

@@ -1,5 +1,6 @@
--- The headline on openings: why one fails, what that changes, and which identity one finds on a disk.
-use Rattle.std.specs.Prelude.{◌≡◌, ◌⊎◌, ◌↔◌, ◌-◌, ◌^◌, ℕ, Bool, true, List, Contains, Some}
+-- The headline on openings and `format`: why an opening fails, what that changes, which identity one finds on a disk,
+-- and that a disk is formatted once.
+use Rattle.std.specs.Prelude.{◌≡◌, ◌⊎◌, ◌↔◌, ◌-◌, ◌^◌, ◌++◌, ◌∷◌, ℕ, Bool, true, List, Contains, Some, Option}
 use Rattle.macs_config.specs.Config.{Edition}
 use Rattle.macs_config.specs.Identity.{Identity}
 use Rattle.macs_disk.specs.States.{Image}
@@ -10,8 +11,10 @@ use Rattle.macs_journal.specs.declared.fault.JournalFault.TheVariants.{Disk, Gen
 use Rattle.macs_store.specs.Found.{IsAtLast}
 use Rattle.macs_store.specs.Replay.{meaning_of}
 use Rattle.macs_store.specs.Standing.{Standing}
-use Rattle.macs_endpoint.specs.State.{State}
-use Rattle.macs_headline.specs.History.{Blank, FitsPast, Formats, Formatted, Leads, Past, Refuses, logs_of}
+use Rattle.macs_endpoint.specs.State.{State, Call}
+use Rattle.macs_endpoint.specs.Step.{Exchange}
+use Rattle.macs_headline.specs.History.{Blank, FitsPast, Formats, Formatted, Leads, Past, Refuses, logs_of, IsHistory}
+use Rattle.macs_headline.specs.History.{Life, Serves}
 use Rattle.macs_headline.specs.Moments.{IsFoundAfter}
 
 -- a journal of a format that the edition rewrites is in the last generation
@@ -54,3 +57,26 @@ pub record NothingChanges (sectors : ℕ) : Type 0 where
 abbrev pub IdentityWasGiven : ℕ → Type 0
 IdentityWasGiven sectors = (past : Past) (found : Standing) → (f : IsFoundAfter sectors past found)
     → (edition : Edition) × (is_ok : Bool) × Contains f.lives (Formats edition found.identity is_ok)
+
+-- ---- `format`: once it returned Ok, and once an opening succeeded, it no longer returns Ok, and no opening finds the
+-- disk without a journal
+
+-- In these lives no `format` returned Ok, and no opening succeeded.
+pub record AreUnformatted (lives : List Life) : Type 0 where
+  pub no_format : (edition : Edition) (identity : Identity) → ¬ Contains lives (Formats edition identity true)
+  pub no_opening : (edition : Edition) (image : Image) (exchanges : List Exchange) (cut : Option Call)
+      → ¬ Contains lives (Serves edition image exchanges cut)
+
+-- this holds of the lives before a `format` that returns Ok
+abbrev pub FormatsOnce : ℕ → Type 0
+FormatsOnce sectors = (lives : List Life) (past : Past) → IsHistory sectors lives past
+    → (before after : List Life) (edition : Edition) (identity : Identity)
+    → before ++ Formats edition identity true ∷ after ≡ lives → AreUnformatted before
+
+-- An opening fails with Disk; or with NotFormatted, and then no `format` of the lives before it returned Ok, and no
+-- opening of them succeeded; or because a journal of a format that the edition rewrites is in the last generation.
+abbrev pub RefusedByHistory : ℕ → Type 0
+RefusedByHistory sectors = (lives : List Life) (past : Past) → IsHistory sectors lives past
+    → (edition : Edition) (image : Image) (fault : JournalFault) (new : Past)
+    → Leads sectors past (Refuses edition image fault) new
+    → (fault ≡ Disk) ⊎ (((fault ≡ NotFormatted) × AreUnformatted lives) ⊎ IsSpentFor edition image fault)

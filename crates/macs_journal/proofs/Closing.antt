@@ -1,10 +1,10 @@
 -- Which sectors are left alone while a disk is formatted, what is in the gates, and what a power loss leaves.
-use Rattle.std.proofs.Common.{◌≡◌, ◌≢◌, ◌<◌, ◌≤◌, ◌+◌, ◌-◌, ⊎_elim, inl, inr, ℕ, sym, ◌∙◌, ap, subst, arith, [], ◌∷◌}
-use Rattle.std.proofs.Common.{length, Some}
+use Rattle.std.proofs.Common.{◌≡◌, ◌≢◌, ◌<◌, ◌≤◌, ◌+◌, ◌-◌, ◌∙◌, ◌∷◌, ⊎_elim, inl, inr, ℕ, sym, ap, subst, arith, []}
+use Rattle.std.proofs.Common.{length, Some, refl}
 use Rattle.std.specs.List.{slice_get}
 use Rattle.std.proofs.lemmas.Option.{slice_get_within}
 use Rattle.macs_config.specs.Identity.{Identity}
-use Rattle.macs_disk.specs.States.{Image}
+use Rattle.macs_disk.specs.States.{Image, DiskState, state_after_sync}
 use Rattle.macs_disk.specs.Disk.{Disk, Works, now}
 use Rattle.macs_disk.specs.Runs.{Leaves}
 use Rattle.macs_disk.proofs.Moments.{Leaves-join, Leaves-now, Works-on}
@@ -20,9 +20,29 @@ use Rattle.macs_journal.specs.Found.{HasJournal, IsGateOpen, IsNotFormatted}
 use Rattle.macs_journal.specs.NewArea.{AreClosed, HasNewGates, IsNoOpenGate, IsOldOrOpening, IsSettled}
 use Rattle.macs_journal.specs.Work.{IsSpared}
 use Rattle.macs_journal.proofs.Appends.{open_or_closed}
-use Rattle.macs_journal.proofs.Blank.{blank-leaves}
 use Rattle.macs_journal.proofs.OpenGates.{new-gates, shut}
-use Rattle.macs_journal.proofs.Spared.{Spared-on, Spared-seen}
+use Rattle.macs_journal.proofs.Spared.{Spared-on, Spared-seen, left-same}
+
+-- ---- a disk both of whose head gates are closed
+
+-- what reads give, once it is durable
+pub blank-synced : (s : DiskState) → IsNotFormatted s.seen → IsBlank (state_after_sync s)
+blank-synced s none = record { clean = λ area le. refl; fresh = λ area le. refl; closed = none }
+
+-- runs that leave both gates alone
+blank-leaves : (old new : Disk) → IsBlank (now old) → Works old new
+    → ((area : ℕ) → area ≤ 1 → IsSpared old new (gate area 0)) → Leaves old new IsNotFormatted
+blank-leaves old new blank works spared = record {
+  works = works;
+  each = λ image left. (
+    λ opens. blank.closed.0 (subst IsOpen
+        (left-same old new image (gate 0 0) (blank.clean 0 (omega arith)) (spared 0 (omega arith)) left) opens),
+    λ opens. blank.closed.1 (subst IsOpen
+        (left-same old new image (gate 1 0) (blank.clean 1 (omega arith)) (spared 1 (omega arith)) left) opens),
+  );
+}
+
+-- ---- while a disk is formatted
 
 one_item : (r other : Record) (j : ℕ) → slice_get (r ∷ []) j ≡ Some other → (j ≡ 0) × (r ≡ other)
 one_item r other j at =

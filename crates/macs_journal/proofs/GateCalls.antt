@@ -10,7 +10,7 @@ use Rattle.macs_journal.specs.Found.{IsGateOpen}
 use Rattle.macs_journal.specs.NewArea.{AreClosed, IsNoOpenGate}
 use Rattle.macs_journal.specs.Stages.{AreGatesClosed, IsCleared, IsClearing}
 use Rattle.macs_journal.specs.Work.{IsSpared}
-use Rattle.macs_journal.proofs.HeadOpened.{synced-settled}
+use Rattle.macs_journal.proofs.HeadCalls.{synced-settled}
 use Rattle.macs_journal.proofs.OpenGates.{closed-next, counted-next, gate-counted, no-gates, shut, spared-next}
 use Rattle.macs_journal.proofs.Spared.{Spared-on, Spared-seen, Spared-start}
 

@@ -1,4 +1,3 @@
-pub mod Items
 pub mod Working
 pub mod Counting
 pub mod Current
@@ -10,8 +9,6 @@ pub mod Appends
 pub mod AppendCalls
 pub mod Holding
 pub mod OpenGates
-pub mod HeadOpened
-pub mod Blank
 pub mod Closing
 pub mod NewArea
 pub mod Compacting
@@ -25,7 +22,6 @@ pub mod Tasks
 pub mod Steps
 pub mod Advancing
 pub mod Recovering
-pub mod Holes
 pub mod Looks
 pub mod Faults
 pub mod OnlyReads

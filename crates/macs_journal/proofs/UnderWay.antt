@@ -24,8 +24,7 @@ use Rattle.macs_journal.specs.declared.compact_stage.CompactStage.TheVariants.{B
 use Rattle.macs_journal.proofs.BodyCalls.{body-written, filling-first, filling-more, head-written}
 use Rattle.macs_journal.proofs.GateCalls.{clearing, gate-closed, gates-synced, read-closed, read-open}
 use Rattle.macs_journal.proofs.HeadCalls.{bodies-durable, head-opened, opening-first, opening-synced, opening-written}
-use Rattle.macs_journal.proofs.HeadCalls.{becomes-compacted}
-use Rattle.macs_journal.proofs.HeadOpened.{left-until, open_gate-opens}
+use Rattle.macs_journal.proofs.HeadCalls.{becomes-compacted, left-until, open_gate-opens}
 use Rattle.macs_journal.proofs.NewArea.{gates-opened, leaves-clearing, leaves-filling, leaves-opening}
 use Rattle.macs_journal.proofs.NewArea.{ready-compacted, spared-clearing, spared-filling, spared-opening}
 use Rattle.macs_journal.proofs.Spared.{Spared-read, Spared-start, Spared-sync, Spared-write}

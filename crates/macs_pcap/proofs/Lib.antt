@@ -1,6 +1,5 @@
 pub mod Fronts
 pub mod Taken
 pub mod Sent
-pub mod WrittenNumbers
 pub mod WrittenRecord
 pub mod WrittenHeader

@@ -3,13 +3,12 @@ use Rattle.std.proofs.Common.{◌≡◌, ◌∙◌, ℕ, Bool, true, false, List
 use Rattle.std.proofs.Common.{append-nil, length-append}
 use Rattle.std.specs.Prelude.{◌==◌, ◌&&◌, nat_lt}
 use Rattle.std.proofs.lemmas.Bool.{le-ltb}
-use Rattle.macs_pcap.proofs.Fronts.{front}
-use Rattle.macs_pcap.proofs.WrittenNumbers.{Stands, behind-number, length-octets_of, number-stands}
+use Rattle.macs_pcap.proofs.Fronts.{front, Stands, behind-number, length-octets_of, number-stands}
 use Rattle.macs_pcap.specs.Captures.{IsHeader}
 use Rattle.macs_pcap.specs.Faults.{field_fault, header_fault}
 use Rattle.macs_pcap.specs.Header.{BeginsWithHeader, ethernet, has_magic, has_version, header_in, header_text, is_big}
-use Rattle.macs_pcap.specs.Header.{is_of_ethernet, longest, magic_of, major_version, minor_version}
-use Rattle.macs_pcap.specs.Numbers.{number_at, octets_of}
+use Rattle.macs_pcap.specs.Header.{is_of_ethernet, longest, magic_of, major_version, minor_version, number_at}
+use Rattle.macs_pcap.specs.Header.{octets_of}
 use Rattle.macs_pcap.specs.declared.header.Header.{Header}
 
 -- ---- the magic

@@ -3,13 +3,11 @@ use Rattle.std.proofs.Common.{◌≡◌, ◌∙◌, ◌<◌, ◌≤◌, ◌^◌,
 use Rattle.std.proofs.Common.{arith, subst, append-nil, append_assoc, length-append}
 use Rattle.std.specs.Prelude.{All, None}
 use Rattle.std.proofs.lemmas.List.Elements.{All-tail}
-use Rattle.macs_pcap.proofs.Fronts.{front, length-front}
+use Rattle.macs_pcap.proofs.Fronts.{front, length-front, Stands, behind-number, length-octets_of, number-stands}
 use Rattle.macs_pcap.proofs.Taken.{sound-none}
-use Rattle.macs_pcap.proofs.WrittenNumbers.{Stands, behind-number, length-octets_of, number-stands}
 use Rattle.macs_pcap.specs.Captures.{BeginsWithRecords, IsCaptureRecord, records_text}
 use Rattle.macs_pcap.specs.Faults.{max_records, record_fault}
-use Rattle.macs_pcap.specs.Header.{longest}
-use Rattle.macs_pcap.specs.Numbers.{number_at, octets_of}
+use Rattle.macs_pcap.specs.Header.{longest, number_at, octets_of}
 use Rattle.macs_pcap.specs.Records.{BeginsWithRecord, CaptureRecord, IsSoundRecordHeader, record_header_text, kept_in}
 use Rattle.macs_pcap.specs.Records.{original_in, record_text, stamp_in}
 use Rattle.macs_pcap.specs.declared.header.Stamp.{Stamp}

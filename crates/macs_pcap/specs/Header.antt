@@ -1,8 +1,20 @@
 -- The header of a capture, its first 24 octets. The magic at the start gives the octet order of every number in the
 -- capture, and the unit of timestamps.
-use Rattle.std.specs.Prelude.{◌≡◌, ℕ, ◌==◌, ◌&&◌, ◌||◌, if◌then◌else◌, Bool, true, false, List, ◌++◌, take}
-use Rattle.macs_pcap.specs.Numbers.{number_at, octets_of}
+use Rattle.std.specs.Prelude.{◌≡◌, ◌==◌, ◌&&◌, ◌||◌, if◌then◌else◌, ◌++◌, ℕ, Bool, true, false, List, take, drop}
+use Rattle.byteorder.specs.Endian.{big_bytes, big_number, little_bytes, little_number}
 use Rattle.macs_pcap.specs.declared.header.Header.{Header}
+
+-- ---- numbers in a capture: all of them in one octet order, that of its header
+
+-- a number in n octets, big-endian if `big`, else little-endian
+abbrev pub octets_of : Bool → ℕ → ℕ → List ℕ
+octets_of big n number = if big then big_bytes n number else little_bytes n number
+
+-- the number in the n octets starting at a place, read in the same order
+unfoldable pub number_at : Bool → ℕ → ℕ → List ℕ → ℕ
+number_at big n place octets = if big then big_number n (drop place octets) else little_number n (drop place octets)
+
+-- ---- a header as it is written
 
 -- the magic as a number: timestamps are in nanoseconds, or in microseconds
 abbrev pub magic_of : Bool → ℕ

@@ -1,4 +1,3 @@
-pub mod Numbers
 pub mod Header
 pub mod Records
 pub mod Captures

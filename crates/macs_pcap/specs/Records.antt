@@ -1,7 +1,6 @@
 -- The records of a capture, one after another after its header: a record header of 16 octets, then the frame.
 use Rattle.std.specs.Prelude.{◌≡◌, ◌≤◌, ℕ, Bool, List, ◌++◌, length, take}
-use Rattle.macs_pcap.specs.Header.{longest}
-use Rattle.macs_pcap.specs.Numbers.{number_at, octets_of}
+use Rattle.macs_pcap.specs.Header.{longest, number_at, octets_of}
 use Rattle.macs_pcap.specs.declared.header.Stamp.{Stamp}
 
 -- a frame with its timestamp

@@ -4,7 +4,7 @@ ghost use Rattle.std.specs.Prelude.{◌≡◌, ◌+◌, ◌≤◌, ◌<◌, leng
 ghost use Rattle.macs_pcap.specs.Faults.{field_fault, record_header_fault, max_records};
 ghost use Rattle.macs_pcap.specs.Header.{header_in, header_text};
 ghost use Rattle.macs_pcap.specs.Header.{is_magic as is_magic_number};
-ghost use Rattle.macs_pcap.specs.Numbers.{number_at, octets_of};
+ghost use Rattle.macs_pcap.specs.Header.{number_at, octets_of};
 ghost use Rattle.macs_pcap.specs.Reading.{IsOfOctets, fault_in};
 ghost use Rattle.macs_pcap.specs.Records.{IsSoundRecordHeader, record_header_text, kept_in};
 ghost use Rattle.macs_pcap.specs.Records.{stamp_in};
@@ -20,7 +20,7 @@ const MICROSECONDS: u32 = 0xa1b2_c3d4;
 const NANOSECONDS: u32 = 0xa1b2_3c4d;
 
 /// The number in the two octets starting at a place.
-#[tactic(auto, unfolding(crate::specs::Numbers::number_at))]
+#[tactic(auto, unfolding(crate::specs::Header::number_at))]
 fn u16_at(big: bool, octets: &[u8], place: usize) -> u16
     requires { place + 2 ≤ length octets.now }
     ensures { result ≡ number_at big 2 place octets.now }
@@ -33,7 +33,7 @@ fn u16_at(big: bool, octets: &[u8], place: usize) -> u16
 }
 
 /// The number in the four octets starting at a place.
-#[tactic(auto, unfolding(crate::specs::Numbers::number_at))]
+#[tactic(auto, unfolding(crate::specs::Header::number_at))]
 fn u32_at(big: bool, octets: &[u8], place: usize) -> u32
     requires { place + 4 ≤ length octets.now }
     ensures { result ≡ number_at big 4 place octets.now }

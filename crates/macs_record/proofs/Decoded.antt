@@ -3,9 +3,8 @@ use Rattle.std.proofs.Common.{◌≡◌, ◌-◌, ◌++◌, ◌∙◌, ℕ, List
 use Rattle.std.proofs.Common.{subst, ap, arith, length-append}
 use Rattle.std.proofs.lemmas.List.{length-replicate}
 use Rattle.macs_fields.specs.First.{IsFirst, NoneHolds}
-use Rattle.macs_record.specs.Decoding.{HasFields, HasKind, RecordFaultHolds, IsSectorOf, record_faults}
+use Rattle.macs_record.specs.Decoding.{HasFields, HasKind, RecordFaultHolds, IsSectorOf, record_faults, FieldsFound}
 use Rattle.macs_record.specs.Layout.{IsRecord, fields_of, front_of, kind_of, octets_of_kind}
-use Rattle.macs_record.specs.Reading.{FieldsFound}
 use Rattle.macs_record.specs.Sectors.{padded_sector}
 use Rattle.macs_record.specs.declared.kind.Kind.{Kind}
 use Rattle.macs_record.specs.declared.record.Record.{Record}

@@ -1,5 +1,6 @@
--- Kinds of records with a key: one for keys of 16 octets, one for keys of 32.
-use Rattle.std.proofs.Common.{◌≡◌, ◌==◌, ◌∙◌, ℕ, if◌then◌else◌, List, length, sym, ap, inl, inr}
+-- Records with a key: their kinds, one for keys of 16 octets and one for keys of 32, and their fields.
+use Rattle.std.proofs.Common.{◌≡◌, ◌==◌, ◌∙◌, if◌then◌else◌, ◌++◌, ◌∷◌, ℕ, List, length, sym, ap, inl, inr}
+use Rattle.std.proofs.Common.{append_assoc}
 use Rattle.macs_config.specs.Apply.{IsKey}
 use Rattle.macs_record.specs.Layout.{by_length, of_length}
 use Rattle.macs_record.specs.Ranges.{IsKeyOf}
@@ -32,3 +33,24 @@ of_its_kind Short key short long differ (inr is) kind =
 of_its_kind Long key short long differ (inl is) kind =
     absurd (differ (sym (by_its_length Short key short long is) ∙ kind))
 of_its_kind Long key short long differ (inr is) kind = is
+
+-- ---- what was read in turn is what the fields are
+
+pub tx_whole : (an : ℕ) (key number last old after_an after_key after_number left : List ℕ) → old ≡ an ∷ after_an
+    → after_an ≡ key ++ after_key
+    → after_key ≡ number ++ after_number → after_number ≡ last ++ left → old ≡ (an ∷ (key ++ (number ++ last))) ++ left
+tx_whole an key number last old after_an after_key after_number left ans keys numbers lasts =
+    let from_key : after_an ≡ (key ++ (number ++ last)) ++ left =
+    keys ∙ ap (λ (xs : List ℕ). key ++ xs)
+    (numbers ∙ ap (λ (xs : List ℕ). number ++ xs) lasts ∙ sym (append_assoc number last left))
+    ∙ sym (append_assoc key (number ++ last) left) in
+    ans ∙ ap (λ (xs : List ℕ). an ∷ xs) from_key
+
+pub rx_whole : (sci : List ℕ) (an : ℕ) (key number last old after_sci after_an after_key after_number left : List ℕ)
+    → old ≡ sci ++ after_sci → after_sci ≡ an ∷ after_an
+    → after_an ≡ key ++ after_key → after_key ≡ number ++ after_number → after_number ≡ last ++ left
+    → old ≡ (sci ++ (an ∷ (key ++ (number ++ last)))) ++ left
+rx_whole sci an key number last old after_sci after_an after_key after_number left scis ans keys numbers lasts =
+    scis ∙ ap (λ (xs : List ℕ). sci ++ xs)
+    (tx_whole an key number last after_sci after_an after_key after_number left ans keys numbers lasts)
+    ∙ sym (append_assoc sci (an ∷ (key ++ (number ++ last))) left)

@@ -6,7 +6,4 @@ pub mod OneRecord
 pub mod Lengths
 pub mod Commands
 pub mod Fingerprints
-pub mod Fields
-pub mod HeadVersions
 pub mod OneHead
-pub mod DecodedHead

@@ -1,15 +1,32 @@
 -- A sector is that of one head: its fields are read back from their places.
-use Rattle.std.proofs.Common.{◌≡◌, ◌++◌, ◌∙◌, ◌==◌, ◌-◌, ℕ, if◌then◌else◌, List, length, take, drop, replicate, refl}
-use Rattle.std.proofs.Common.{sym, ap, arith, append_assoc}
+use Rattle.std.proofs.Common.{◌≡◌, ◌++◌, ◌∙◌, ◌==◌, ◌-◌, if◌then◌else◌, ◌<◌, ◌^◌, ℕ, List, length, take, drop}
+use Rattle.std.proofs.Common.{replicate, refl, sym, ap, arith, append_assoc, Option, Some, None, IfSome}
 use Rattle.std.specs.Int.{from_be_bytes, to_be_bytes, w32, w64}
 use Rattle.std.proofs.lemmas.Nat.{from_be_bytes-to_be_bytes_4, from_be_bytes-to_be_bytes_8}
 use Rattle.macs_config.specs.Identity.{Identity, IsBlock}
-use Rattle.macs_record.specs.Heads.{Head, IsHead, IsHeadOf, head_octets, identity_octets, version_of}
+use Rattle.macs_record.specs.Heads.{Head, IsHead, IsHeadOf, head_octets, identity_octets, version_of, head_mark}
 use Rattle.macs_fields.specs.Fields.{IsSci}
 use Rattle.macs_record.specs.declared.format.Format.{Format}
 use Rattle.macs_record.specs.declared.format.Format.TheVariants.{One, Two}
-use Rattle.macs_record.proofs.HeadVersions.{small_version}
 use Rattle.macs_record.proofs.OneRecord.{cut}
+
+-- ---- the versions of heads
+
+-- a version has 32 bits
+pub small_version : (format : Format) → version_of format < 2 ^ 32
+small_version One = omega arith
+small_version Two = omega arith
+
+-- a mark and a version were read, and the version is that of a format
+pub version_read : (result : Option Format) (version : ℕ) (old left : List ℕ)
+    → IfSome result (λ format. version_of format ≡ version)
+    → old ≡ head_mark ++ to_be_bytes w32 version ++ left
+    → IfSome result (λ format. old ≡ head_mark ++ to_be_bytes w32 (version_of format) ++ left)
+version_read None version old left is here = tt
+version_read (Some format) version old left is here = here
+    ∙ ap (λ (n : ℕ). head_mark ++ to_be_bytes w32 n ++ left) (sym is)
+
+-- ---- a head
 
 abbrev identity_from : List ℕ → List ℕ → Identity
 identity_from sci blocks = record {

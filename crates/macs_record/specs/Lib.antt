@@ -1,7 +1,6 @@
 pub mod Ranges
 pub mod Sectors
 pub mod Layout
-pub mod Reading
 pub mod Decoding
 pub mod Commands
 pub mod Gates

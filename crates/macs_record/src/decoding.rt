@@ -5,7 +5,7 @@ ghost use Rattle.std.specs.Prelude.{true};
 ghost use Rattle.macs_fields.specs.First.{IsFirst};
 ghost use Rattle.macs_record.specs.Decoding.{RecordFaultHolds, IsSectorOf, record_faults};
 ghost use Rattle.macs_record.specs.Layout.{has_one_field, octets_of_kind, of_length};
-ghost use Rattle.macs_record.specs.Reading.{FieldsFound, FieldsRead};
+ghost use Rattle.macs_record.specs.Decoding.{FieldsFound, FieldsRead};
 ghost use Rattle.macs_record.specs.declared.kind.Kind.{Kind};
 ghost use Rattle.macs_record.specs.declared.kind.Kind.TheVariants as kinds;
 ghost use Rattle.macs_record.specs.declared.record.Record.{Record};

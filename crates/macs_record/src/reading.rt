@@ -15,7 +15,7 @@ ghost use Rattle.macs_record.specs.Ranges.{IsCeiling, IsEncoding, IsFingerprints
 ghost use Rattle.macs_record.specs.Layout.{encoding_octet, fingerprint_octets, flag_octet};
 ghost use Rattle.macs_record.specs.Layout.{mode_octet, protection_octets, replay_octets};
 ghost use Rattle.macs_record.specs.Layout.{role_octet, validate_octet};
-ghost use Rattle.macs_record.specs.Reading.{IsFound, IsRead};
+ghost use Rattle.macs_record.specs.Decoding.{IsFound, IsRead};
 
 use crate::ceiling::Ceiling;
 use crate::key_length::KeyLength;

@@ -1,5 +1,5 @@
 -- What the channels show, after one of them has changed, came or went.
-use Rattle.std.proofs.Common.{◌≡◌, ◌∙◌, ◌<◌, ℕ, zero, suc, true, false, not, List, [], ◌∷◌, ◌++◌, length, map, take}
+use Rattle.std.proofs.Common.{◌≡◌, ◌∙◌, ◌<◌, ◌∷◌, ◌++◌, ℕ, zero, suc, true, false, not, List, [], length, map, take}
 use Rattle.std.proofs.Common.{drop, set, get_or, filter, Option, Some, None, refl, ap, sym, subst}
 use Rattle.std.specs.Prelude.{position, slice_set}
 use Rattle.std.specs.List.{insert, list_any}
@@ -23,13 +23,12 @@ use Rattle.macs_frame.specs.declared.tag.TagFault.{TagFault}
 use Rattle.macs_frame.specs.declared.tag.TagFault.TheVariants.{Runt as IsRunt, Oversize as IsOversize}
 use Rattle.macs_frame.specs.declared.tag.TagFault.TheVariants.{NoTag as HasNoTag, BadTag as HasBadTag}
 use Rattle.macs_frame.specs.declared.tag.TagFault.TheVariants.{ForKay as IsForKay}
-use Rattle.macs_rxsc.specs.Sound.{IsSoundRx}
+use Rattle.macs_rxsc.specs.Value.{IsSoundRx, ceilings_among, ceilings_in, channel_at, counters_among, counters_in}
+use Rattle.macs_rxsc.specs.Value.{numbers_in, packet_numbers, sa_of, sas_in, scis_of, rx_side_in, association_under}
+use Rattle.macs_rxsc.specs.Value.{channel_under, association_in}
 use Rattle.macs_rxsc.specs.Receive.{Numbers, IsOutcome, RxSide, Tag as TagStep, put_numbers, sci_named}
 use Rattle.macs_rxsc.specs.Receive.{standing_channel, verdict_at, numbers_under_window}
 use Rattle.macs_rxsc.specs.Counting.{channel_counters_after, counters_after_verdict_at, no_channel_counts}
-use Rattle.macs_rxsc.specs.Value.{ceilings_among, ceilings_in, channel_at, counters_among, counters_in, numbers_in}
-use Rattle.macs_rxsc.specs.Value.{packet_numbers, sa_of, sas_in, scis_of, rx_side_in, association_under, channel_under}
-use Rattle.macs_rxsc.specs.Value.{association_in}
 use Rattle.macs_rxsc.specs.declared.association.Association.{Association}
 use Rattle.macs_rxsc.specs.declared.channel.Channel.{Channel}
 use Rattle.macs_rxsc.specs.declared.counters.ChannelCounters.{ChannelCounters}

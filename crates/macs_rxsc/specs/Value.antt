@@ -1,11 +1,12 @@
 -- Receive channels as they are stored.
-use Rattle.std.specs.Prelude.{ℕ, ◌-◌, max, if◌then◌else◌, List, [], ◌∷◌, map, get_or, Option, Some, None}
+use Rattle.std.specs.Prelude.{◌-◌, if◌then◌else◌, ◌∷◌, ◌≡◌, ℕ, max, List, [], map, get_or, Option, Some, None, true}
 use Rattle.std.specs.Option.{option_and_then, option_map}
 use Rattle.std.specs.Str.{bytes_eq}
+use Rattle.macs_config.specs.Config.{is_ascending}
 use Rattle.macs_config.specs.declared.association.RxSa.{RxSa}
 use Rattle.macs_config.specs.declared.command.Replay.{Replay}
 use Rattle.macs_config.specs.declared.command.Validate.{Validate}
-use Rattle.macs_rxsc.specs.Receive.{Numbers, RxSide}
+use Rattle.macs_rxsc.specs.Receive.{Numbers, RxSide, AreOrdered}
 use Rattle.macs_rxsc.specs.declared.association.Association.{Association}
 use Rattle.macs_rxsc.specs.declared.channel.Channel.{Channel}
 use Rattle.macs_rxsc.specs.declared.counters.ChannelCounters.{ChannelCounters}
@@ -110,3 +111,9 @@ association_at_rest a = record a { ceiling = a.next }
 abbrev pub channel_at_rest : Channel → Channel
 channel_at_rest channel =
     record channel { associations = map (option_map association_at_rest) channel.associations }
+
+-- what holds of receive channels as they are stored: they ascend, so that none occurs twice, and the numbers of each
+-- association are in order
+pub record IsSoundRx (kept : RxValue) : Type 0 where
+  pub ascending : is_ascending (rx_side_of kept).channels ≡ true
+  pub ordered : (sci : List ℕ) (an : ℕ) → AreOrdered (rx_side_of kept) (ceilings_of kept) sci an

@@ -42,7 +42,7 @@ pub struct Rx {
 
 impl Model for Rx {
     ghost use Rattle.macs_rxsc.specs.Value.{RxValue};
-    ghost use Rattle.macs_rxsc.specs.Sound.{IsSoundRx};
+    ghost use Rattle.macs_rxsc.specs.Value.{IsSoundRx};
 
     ghost Value = { RxValue };
 

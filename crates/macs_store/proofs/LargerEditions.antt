@@ -1,5 +1,5 @@
 -- What an image stands for to an edition, it stands for to one that takes as much or more.
-use Rattle.std.proofs.Common.{◌≡◌, ◌∙◌, ℕ, Bool, true, false, cond, refl, sym, ap, subst, arith, List, [], ◌∷◌, take}
+use Rattle.std.proofs.Common.{◌≡◌, ◌∙◌, ◌∷◌, ℕ, Bool, true, false, cond, refl, sym, ap, subst, arith, List, [], take}
 use Rattle.std.proofs.Common.{drop, Option, Some, None, Result, Ok, Err}
 use Rattle.std.specs.Option.{option_and_then, option_map}
 use Rattle.macs_config.specs.Apply.{Reason, apply}
@@ -13,13 +13,12 @@ use Rattle.macs_disk.specs.States.{Image}
 use Rattle.macs_record.specs.declared.record.Record.{Record}
 use Rattle.macs_record.specs.declared.record.Record.TheVariants.{RxCeiling, TxCeiling}
 use Rattle.macs_store.specs.Commands.{command_of}
-use Rattle.macs_store.specs.Editions.{standing_to}
+use Rattle.macs_store.specs.Standing.{standing_to, Ceilings, Standing, ceilings_after, no_ceilings, standing_or_refusal}
+use Rattle.macs_store.specs.Standing.{standing_with_rx_ceiling, standing_with_tx_ceiling}
 use Rattle.macs_store.specs.Found.{StandingIs}
 use Rattle.macs_store.specs.Replay.{accepted_standing, ceilings_with_records, is_raise, meaning_of, replay_of}
 use Rattle.macs_store.specs.Replay.{snapshot_of, snapshot_parts, standing_after_command, standing_after_record}
 use Rattle.macs_store.specs.Replay.{standing_after_records}
-use Rattle.macs_store.specs.Standing.{Ceilings, Standing, ceilings_after, no_ceilings, standing_or_refusal}
-use Rattle.macs_store.specs.Standing.{standing_with_rx_ceiling, standing_with_tx_ceiling}
 use Rattle.macs_store.proofs.Formats.{larger-reads, meaning-read, read-meaning}
 
 -- what comes of something comes of what that is

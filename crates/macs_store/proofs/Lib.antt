@@ -2,7 +2,6 @@ pub mod Replaying
 pub mod Tables
 pub mod Adjusting
 pub mod Formats
-pub mod Identities
 pub mod Keeping
 pub mod Compacting
 pub mod Migrating
@@ -18,7 +17,6 @@ pub mod Ascending
 pub mod Making
 mod FreshKeys
 pub mod Sections
-mod Whole
 pub mod Snapshots
 mod SnapshotLength
 mod Passing

@@ -11,9 +11,8 @@ use Rattle.macs_config.specs.declared.command.Role.TheVariants.{Receive, Transmi
 use Rattle.macs_record.specs.declared.record.Record.{Record}
 use Rattle.macs_record.specs.declared.record.Record.TheVariants.{Channel, Spent}
 use Rattle.macs_store.specs.Snapshot.{channel_records, record_if_any, rx_records, settings_record, snapshot}
-use Rattle.macs_store.specs.Snapshot.{spent_records, tx_records}
+use Rattle.macs_store.specs.Snapshot.{spent_records, tx_records, new_walk, walk_keeping, walk_past, walk_past_all}
 use Rattle.macs_store.specs.Standing.{Standing}
-use Rattle.macs_store.specs.Walk.{new_walk, walk_keeping, walk_past, walk_past_all}
 use Rattle.macs_store.specs.declared.walk.Walk.{Walk}
 
 -- ---- one record

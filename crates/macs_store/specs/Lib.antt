@@ -1,10 +1,8 @@
 pub mod Standing
-pub mod Editions
 pub mod Commands
 pub mod Replay
 pub mod Snapshot
 pub mod Table
-pub mod Walk
 pub mod UnderWay
 pub mod Found
 pub mod Value

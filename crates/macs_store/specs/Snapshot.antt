@@ -1,5 +1,6 @@
 -- The standing, as the records of a snapshot.
-use Rattle.std.specs.Prelude.{ℕ, ◌*◌, List, [], ◌∷◌, ◌++◌, map, flat_map, take, drop, Option, Some}
+use Rattle.std.specs.Prelude.{◌*◌, ◌∷◌, ◌++◌, ◌+◌, ◌==◌, if◌then◌else◌, ℕ, List, [], map, flat_map, take, drop, Option}
+use Rattle.std.specs.Prelude.{Some, Bool, None}
 use Rattle.std.specs.List.{range_with_len}
 use Rattle.macs_config.specs.Config.{Config}
 use Rattle.macs_config.specs.Snapshot.{every_an}
@@ -8,6 +9,7 @@ use Rattle.macs_config.specs.declared.command.Role.TheVariants.{Transmit, Receiv
 use Rattle.macs_record.specs.declared.record.Record.{Record}
 use Rattle.macs_record.specs.declared.record.Record.TheVariants.{Settings, TxSa, Channel, RxSa, Spent}
 use Rattle.macs_store.specs.Standing.{Ceilings, Standing}
+use Rattle.macs_store.specs.declared.walk.Walk.{Walk}
 
 -- the record of an association with its ceiling, if both exist
 abbrev pub record_if_both : {A : Type 0} → (A → ℕ → Record) → Option A → Option ℕ → List Record
@@ -80,3 +82,23 @@ snapshot s =
     settings_record s.config
     ∷ (tx_records s.config s.ceilings ++ (channel_records s.config.channels ++ (rx_records s.config s.ceilings
     ++ (spent_records Transmit s.config.spent_tx ++ spent_records Receive s.config.spent_rx))))
+
+-- ---- a walk over records, one by one, which keeps the one at a position
+
+-- before the first record
+abbrev pub new_walk : ℕ → Walk
+new_walk place = record { place = place; passed = 0; found = None }
+
+-- past one more record, which is kept or not
+abbrev pub walk_keeping : Bool → Walk → Record → Walk
+walk_keeping is_here w r =
+    record { place = w.place; passed = w.passed + 1; found = if is_here then Some r else w.found }
+
+-- past one more record: it is kept if as many came before it as the position says
+abbrev pub walk_past : Walk → Record → Walk
+walk_past w r = walk_keeping (w.passed == w.place) w r
+
+-- past all of these records
+abbrev pub walk_past_all : Walk → List Record → Walk
+walk_past_all w [] = w
+walk_past_all w (r ∷ rs) = walk_past_all (walk_past w r) rs

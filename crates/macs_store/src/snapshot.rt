@@ -12,7 +12,7 @@ ghost use Rattle.macs_store.specs.Snapshot.{rx_records_of};
 ghost use Rattle.macs_store.specs.Snapshot.{settings_record, snapshot, spent_records};
 ghost use Rattle.macs_store.specs.Snapshot.{spent_records_at, tx_records, tx_records_at};
 ghost use Rattle.macs_store.specs.Table.{standing_of, table_ceilings};
-ghost use Rattle.macs_store.specs.Walk.{new_walk, walk_past, walk_past_all};
+ghost use Rattle.macs_store.specs.Snapshot.{new_walk, walk_past, walk_past_all};
 
 use crate::ceiling_table::CeilingTable;
 use crate::laws::snapshot_stands_for_itself;

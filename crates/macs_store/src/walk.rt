@@ -2,7 +2,7 @@
 
 ghost use Rattle.std.specs.Prelude.{◌≡◌, ◌<◌, ◌+◌, ◌==◌, false};
 ghost use Rattle.macs_store.specs.Snapshot.{most_records};
-ghost use Rattle.macs_store.specs.Walk.{new_walk, walk_past};
+ghost use Rattle.macs_store.specs.Snapshot.{new_walk, walk_past};
 
 use macs_record::Record;
 

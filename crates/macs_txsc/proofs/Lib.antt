@@ -1,4 +1,2 @@
 pub mod Faults
 pub mod Needs
-pub mod Places
-pub mod Lowered

@@ -1,7 +1,7 @@
 //! The words of a text, one after another.
 
 ghost use Rattle.std.specs.Prelude.{◌≡◌};
-ghost use Rattle.macs_commands.specs.Cutting.{after_word, first_word};
+ghost use Rattle.macs_commands.specs.CommandLines.{after_word, first_word};
 
 /// A text, cut at its first blank.
 #[derive(Clone, Copy)]

@@ -1,10 +1,29 @@
 use Rattle.std.proofs.Common.{◌≡◌, ◌<◌, ◌≤◌, ◌∙◌, ◌+◌, ◌*◌, List, ℕ, arith, inl, inr, refl, subst, sym}
 use Rattle.std.proofs.lemmas.Bool.{cases_lt}
 use Rattle.macs_disk.specs.Files.{FileState, HasZeros}
+use Rattle.macs_disk.specs.FileEvidence.{value-at}
 use Rattle.macs_journal.specs.Contents.{IsUnused, sector_in}
-use Rattle.macs_journal.proofs.Holes.{unused_before}
 use Rattle.macs_disk.proofs.DiskCopies.{carried}
 use Rattle.macs_journal.proofs.contents.is_blank.Goals as goal
+
+-- ---- sectors of a file's holes
+
+-- one that has zeros is unused
+hole_is_unused : (file : FileState) (number : ℕ) → HasZeros file (512 * number) (512 * number + 512)
+    → IsUnused number (sector_in file number)
+hole_is_unused file number zeros = inr (λ i below. inl (
+    value-at file.seen (512 * number) 512 i 0 below
+    ∙ zeros (512 * number + i) (omega arith) (omega (arith, below))))
+
+-- each sector before the next one that may have others than zeros is unused, if each before this one is
+unused_before : (file : FileState) (number next : ℕ)
+    → ((k : ℕ) → k < number → IsUnused k (sector_in file k))
+    → ((k : ℕ) → number ≤ k → k < next → HasZeros file (512 * k) (512 * k + 512))
+    → (k : ℕ) → k < next → IsUnused k (sector_in file k)
+unused_before file number next known zeros k below = elim (cases_lt k number) [
+  | inl before ↦ known k before
+  | inr behind ↦ hole_is_unused file k (zeros k (omega (arith, behind)) below)
+]
 
 pub returns-then-number-sectors-clause-found : goal.returns-then-number-sectors-clause-found
 returns-then-number-sectors-clause-found g c = λ behaves.

@@ -11,7 +11,7 @@ use Rattle.macs_journal.specs.Formatting.{IsNewOrNone, first_head}
 use Rattle.macs_journal.specs.Found.{IsNotFormatted}
 use Rattle.macs_journal.specs.NewArea.{AreClosed, IsNoOpenGate, IsOldOrOpening}
 use Rattle.macs_journal.specs.Work.{IsSpared}
-use Rattle.macs_journal.proofs.HeadOpened.{open_gate-opens}
+use Rattle.macs_journal.proofs.HeadCalls.{open_gate-opens}
 use Rattle.macs_journal.proofs.Closing.{leaves-bodies, leaves-closing, gates-last, leaves-first, ready-first}
 use Rattle.macs_journal.proofs.Closing.{spared-bodies, spared-closing, spared-last}
 use Rattle.macs_journal.proofs.formatting.fill.Given.{Over}

@@ -8,7 +8,7 @@ use Rattle.macs_journal.specs.Areas.{gate}
 use Rattle.macs_journal.specs.NewArea.{IsOldOrOpening}
 use Rattle.macs_journal.specs.Work.{IsSpared}
 use Rattle.macs_journal.proofs.Appends.{wrote, sync-image}
-use Rattle.macs_journal.proofs.HeadOpened.{opening-image, synced-settled}
+use Rattle.macs_journal.proofs.HeadCalls.{opening-image, synced-settled}
 use Rattle.macs_journal.proofs.Spared.{Spared-on, Spared-sync, Spared-write}
 use Rattle.macs_journal.proofs.Working.{failed, failed-later}
 use Rattle.macs_journal.proofs.head_gate.open_head.Given.{Over}

@@ -3,8 +3,7 @@ use Rattle.std.specs.Int.{to_be_bytes, w64}
 use Rattle.macs_fields.specs.Fields.{octets_of}
 use Rattle.macs_record.specs.Layout.{IsRecord, fields_of}
 use Rattle.macs_record.specs.declared.kind.Kind.TheVariants as kinds
-use Rattle.macs_record.proofs.Fields.{rx_whole}
-use Rattle.macs_record.proofs.KeyKinds.{by_its_length, is_key}
+use Rattle.macs_record.proofs.KeyKinds.{rx_whole, by_its_length, is_key}
 use Rattle.macs_record.proofs.Numbers.{never}
 use Rattle.macs_record.proofs.OneRecord.{one_read}
 use Rattle.macs_record.proofs.RecordKinds.{for_rx_sa}

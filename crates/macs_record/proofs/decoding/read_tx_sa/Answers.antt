@@ -2,8 +2,7 @@ use Rattle.std.proofs.Common.{◌≡◌, ◌++◌, ◌∙◌, append_assoc}
 use Rattle.std.specs.Int.{to_be_bytes, w64}
 use Rattle.macs_record.specs.Layout.{IsRecord, fields_of, protection_octets}
 use Rattle.macs_record.specs.declared.kind.Kind.TheVariants as kinds
-use Rattle.macs_record.proofs.Fields.{tx_whole}
-use Rattle.macs_record.proofs.KeyKinds.{by_its_length, is_key}
+use Rattle.macs_record.proofs.KeyKinds.{tx_whole, by_its_length, is_key}
 use Rattle.macs_record.proofs.Numbers.{never}
 use Rattle.macs_record.proofs.OneRecord.{one_read}
 use Rattle.macs_record.proofs.RecordKinds.{for_tx_sa}

@@ -2,7 +2,7 @@ use Rattle.std.proofs.Common.{◌≡◌, ◌++◌, ◌∙◌, ℕ, List, refl, s
 use Rattle.std.specs.Int.{to_be_bytes, w32}
 use Rattle.std.proofs.lemmas.Slice.Eq.{bytes_eq-Decides}
 use Rattle.macs_record.specs.Heads.{head_mark, version_of}
-use Rattle.macs_record.proofs.HeadVersions.{small_version, version_read}
+use Rattle.macs_record.proofs.OneHead.{small_version, version_read}
 use Rattle.macs_record.proofs.Numbers.{never}
 use Rattle.macs_record.proofs.head_codec.read_format.Goals as goal
 

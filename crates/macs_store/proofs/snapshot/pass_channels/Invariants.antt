@@ -1,6 +1,5 @@
 use Rattle.std.proofs.Common.{◌≡◌, ◌≤◌, ◌+◌, take}
-use Rattle.macs_store.specs.Snapshot.{channel_records}
-use Rattle.macs_store.specs.Walk.{walk_past_all}
+use Rattle.macs_store.specs.Snapshot.{channel_records, walk_past_all}
 use Rattle.macs_store.proofs.snapshot.pass_channels.Given as goal
 
 abbrev pub invariant-loop-sci : goal.invariant-loop-sci

@@ -2,8 +2,7 @@ use Rattle.std.proofs.Common.{◌∙◌, ℕ, List, ap, sym}
 use Rattle.macs_config.specs.Config.{spent_of}
 use Rattle.macs_config.specs.Value.{config_of}
 use Rattle.macs_record.specs.declared.record.Record.{Record}
-use Rattle.macs_store.specs.Snapshot.{fingerprints_at, record_if_any}
-use Rattle.macs_store.specs.Walk.{walk_past_all}
+use Rattle.macs_store.specs.Snapshot.{fingerprints_at, record_if_any, walk_past_all}
 use Rattle.macs_store.proofs.Passing.{some-record}
 use Rattle.macs_store.proofs.snapshot.pass_fingerprints.Goals as goal
 

@@ -1,9 +1,8 @@
 use Rattle.std.proofs.Common.{List, ◌∙◌, ℕ, ap, arith}
 use Rattle.std.specs.Prelude.{flat_map}
 use Rattle.macs_config.specs.Value.{config_of}
-use Rattle.macs_store.specs.Snapshot.{rx_records, rx_records_of}
+use Rattle.macs_store.specs.Snapshot.{rx_records, rx_records_of, walk_past_all}
 use Rattle.macs_store.specs.Table.{table_ceilings}
-use Rattle.macs_store.specs.Walk.{walk_past_all}
 use Rattle.macs_store.proofs.Passing.{past-all, past-more}
 use Rattle.macs_store.proofs.snapshot.pass_rx.Goals as goal
 

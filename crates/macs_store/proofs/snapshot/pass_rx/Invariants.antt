@@ -1,9 +1,8 @@
 use Rattle.std.proofs.Common.{◌≡◌, ◌≤◌, ◌+◌, ◌*◌, take}
 use Rattle.std.specs.Prelude.{flat_map}
 use Rattle.macs_config.specs.Value.{config_of}
-use Rattle.macs_store.specs.Snapshot.{rx_records_of}
+use Rattle.macs_store.specs.Snapshot.{rx_records_of, walk_past_all}
 use Rattle.macs_store.specs.Table.{table_ceilings}
-use Rattle.macs_store.specs.Walk.{walk_past_all}
 use Rattle.macs_store.proofs.snapshot.pass_rx.Given as goal
 
 abbrev pub invariant-loop-sci : goal.invariant-loop-sci

@@ -2,9 +2,8 @@ use Rattle.std.proofs.Common.{◌≡◌, ◌≤◌, ◌+◌, take}
 use Rattle.std.specs.Prelude.{flat_map}
 use Rattle.macs_config.specs.Snapshot.{every_an}
 use Rattle.macs_config.specs.Value.{config_of}
-use Rattle.macs_store.specs.Snapshot.{rx_records_at}
+use Rattle.macs_store.specs.Snapshot.{rx_records_at, walk_past_all}
 use Rattle.macs_store.specs.Table.{table_ceilings}
-use Rattle.macs_store.specs.Walk.{walk_past_all}
 use Rattle.macs_store.proofs.snapshot.pass_rx_of.Given as goal
 
 abbrev pub invariant-loop-an : goal.invariant-loop-an

@@ -1,6 +1,6 @@
 use Rattle.std.proofs.Common.{◌∙◌}
 use Rattle.macs_record.specs.declared.record.Record.TheVariants.{Settings}
-use Rattle.macs_store.specs.Walk.{walk_past}
+use Rattle.macs_store.specs.Snapshot.{walk_past}
 use Rattle.macs_store.proofs.snapshot.pass_settings.Goals as goal
 
 pub returns-clause-walked : goal.returns-clause-walked

@@ -3,8 +3,7 @@ use Rattle.std.specs.List.{range_with_len}
 use Rattle.std.specs.Prelude.{flat_map}
 use Rattle.macs_config.specs.Config.{spent_of}
 use Rattle.macs_config.specs.Value.{config_of}
-use Rattle.macs_store.specs.Snapshot.{most_spent_records, spent_records_at}
-use Rattle.macs_store.specs.Walk.{walk_past_all}
+use Rattle.macs_store.specs.Snapshot.{most_spent_records, spent_records_at, walk_past_all}
 use Rattle.macs_store.proofs.snapshot.pass_spent.Given as goal
 
 abbrev pub invariant-loop-place : goal.invariant-loop-place

@@ -1,7 +1,6 @@
 use Rattle.std.proofs.Common.{ℕ, List, arith, decimal}
 use Rattle.hex.specs.Hex.{encode_lower}
-use Rattle.macs_commands.specs.Cutting.{spaced}
-use Rattle.macs_commands.specs.CommandLines.{key_digits}
+use Rattle.macs_commands.specs.CommandLines.{spaced, key_digits}
 use Rattle.macs_commands.proofs.Blanks.{cut_at, decimal_lacks}
 use Rattle.macs_commands.proofs.Values.{key_lacks, sci_lacks}
 use Rattle.macs_commands.proofs.requests.commands_of_lines.rx_install.Goals as goal

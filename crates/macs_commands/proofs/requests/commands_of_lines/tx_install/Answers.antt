@@ -1,6 +1,5 @@
 use Rattle.std.proofs.Common.{◌∙◌, ℕ, List, arith, decimal}
-use Rattle.macs_commands.specs.Cutting.{spaced}
-use Rattle.macs_commands.specs.CommandLines.{key_digits}
+use Rattle.macs_commands.specs.CommandLines.{spaced, key_digits}
 use Rattle.macs_commands.specs.Words.{protection_word}
 use Rattle.macs_commands.proofs.Blanks.{cut_at, decimal_lacks}
 use Rattle.macs_commands.proofs.Values.{confidential_said, key_lacks, protection_lacks}

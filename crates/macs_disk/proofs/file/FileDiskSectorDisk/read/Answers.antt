@@ -1,4 +1,4 @@
-use Rattle.std.proofs.Common.{◌≡◌, ap, ◌∙◌, sym, subst, OnOk}
+use Rattle.std.proofs.Common.{◌≡◌, ◌∙◌, ap, sym, subst, OnOk}
 use Rattle.std.specs.declared.snapshot.Snapshot.{Snapshot}
 use Rattle.macs_disk.specs.Disk.{Reads}
 use Rattle.macs_disk.specs.Layouts.{place}
@@ -6,7 +6,7 @@ use Rattle.macs_disk.specs.declared.layout.Layout.{Layout}
 use Rattle.macs_disk.specs.FileDisks.{IsFoundAs}
 use Rattle.macs_disk.specs.Files.{FileState, values_from}
 use Rattle.macs_disk.proofs.FileSectors.{keeps-same, reads-sector}
-use Rattle.macs_disk.proofs.FileCalls.{effect, file-call, fit-before, fit-through, on-ok, one-more, same-count, through}
+use Rattle.macs_disk.proofs.FileCalls.{effect, fit-before, fit-through, on-ok, through, two-step-call}
 use Rattle.macs_disk.proofs.FoundAgain.{found-next}
 use Rattle.macs_disk.proofs.file.FileDiskSectorDisk.read.Goals as goal
 
@@ -21,16 +21,10 @@ returns-clause-call g c =
     let came : new.shown.value ≡ back = ap (λ (s : Snapshot _). s.value) c.count.ensures.shown ∙ c.of.ensures in
     let fit = keeps-same old.layout (file lent) (file back) c.read_sector-answer.ensures.steady
     c.read_sector-answer.ensures.same in
-    let lay = c.count.ensures.layout ∙ c.begin.ensures.layout in
-    file-call file old.layout new.layout old.past.items new.past.items old.shown new.shown old.sectors new.sectors
-    old.clock new.clock old.failures new.failures c.count.result
-    old.kept lay (c.count.ensures.past ∙ c.in_ok-begin.ensures.past) c.in_ok-begin.ensures.ok.0
-    (c.count.ensures.clock ∙ c.in_ok-begin.ensures.ok.1)
-    (c.count.ensures.sectors ∙ c.begin.ensures.sectors)
-    (same-count c.count.result new.failures c.begin.new.self.failures old.failures c.count.ensures.ok
-    c.in_ok-begin.ensures.steady)
-    (one-more c.count.result new.failures c.begin.new.self.failures old.failures c.count.ensures.err
-    c.in_ok-begin.ensures.steady)
+    let begun = c.in_ok-begin.ensures in
+    let counted = c.count.ensures in
+    two-step-call file old c.begin.new.self new c.count.result c.begin.ensures.layout c.begin.ensures.sectors begun.past
+    begun.ok.0 begun.ok.1 begun.steady counted.layout counted.sectors counted.past counted.clock counted.ok counted.err
     (fit-through file old.layout lent back old.shown new.shown went came fit)
 
 pub returns-clause-effect : goal.returns-clause-effect

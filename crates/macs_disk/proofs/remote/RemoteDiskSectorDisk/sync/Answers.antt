@@ -1,4 +1,4 @@
-use Rattle.macs_disk.proofs.RemoteCalls.{missed-by-remote}
+use Rattle.macs_disk.proofs.MissedCalls.{missed-by-remote}
 use Rattle.macs_disk.proofs.remote.RemoteDiskSectorDisk.sync.Goals as goal
 
 pub returns-clause-call : goal.returns-clause-call

@@ -2,7 +2,7 @@ use Rattle.std.proofs.Common.{◌≡◌, ◌∙◌, Some, is_some, ap, sym, subs
 use Rattle.macs_rxsc.specs.Needs.{Need}
 use Rattle.macs_store.specs.Value.{standing_in}
 use Rattle.macs_endpoint.specs.Ceilings.{standing_with_raise}
-use Rattle.macs_endpoint.specs.PrivateTypes.{raise_of}
+use Rattle.macs_endpoint.specs.Parts.{raise_of}
 use Rattle.macs_endpoint.specs.Value.{IsRaiseWithin}
 use Rattle.macs_endpoint.specs.declared.refilling.Raise.{Raise}
 use Rattle.macs_endpoint.specs.declared.refilling.Raise.TheVariants.{Rx, Tx}

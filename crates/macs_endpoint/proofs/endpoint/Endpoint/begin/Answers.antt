@@ -1,7 +1,7 @@
 use Rattle.std.proofs.Common.{◌∙◌, sym, ap, subst}
 use Rattle.std.specs.Option.{option_map}
 use Rattle.macs_store.specs.Value.{IsIdle}
-use Rattle.macs_endpoint.specs.PrivateTypes.{due_of}
+use Rattle.macs_endpoint.specs.Parts.{due_of}
 use Rattle.macs_endpoint.specs.Value.{EndpointValue}
 use Rattle.macs_endpoint.proofs.Ended.{not_stopped}
 use Rattle.macs_endpoint.proofs.Taken.{going-begun, idle-call, stopped-step}

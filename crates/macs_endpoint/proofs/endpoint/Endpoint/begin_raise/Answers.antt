@@ -2,7 +2,7 @@ use Rattle.std.proofs.Common.{◌∙◌, Err, sym, ap, subst}
 use Rattle.macs_endpoint.specs.Calls.{IsStep}
 use Rattle.macs_endpoint.specs.Needed.{raise_in}
 use Rattle.macs_endpoint.specs.Queue.{first_waiting}
-use Rattle.macs_endpoint.specs.PrivateTypes.{raise_of}
+use Rattle.macs_endpoint.specs.Parts.{raise_of}
 use Rattle.macs_endpoint.specs.Value.{EndpointValue, device_in}
 use Rattle.macs_endpoint.specs.declared.fault.StepFault.TheVariants as step
 use Rattle.macs_endpoint.specs.declared.turn.Turn.TheVariants as turn

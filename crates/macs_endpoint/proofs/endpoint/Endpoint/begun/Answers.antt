@@ -15,7 +15,7 @@ use Rattle.macs_journal.specs.declared.recovery.RecoverRefused.{RecoverRefused}
 use Rattle.macs_store.specs.Value.{IsIdle, StoreValue, standing_in}
 use Rattle.macs_store.specs.Standing.{Standing}
 use Rattle.macs_endpoint.specs.Opening.{Begins, BeginsOpened}
-use Rattle.macs_endpoint.specs.PrivateTypes.{raise_of}
+use Rattle.macs_endpoint.specs.Parts.{raise_of}
 use Rattle.macs_endpoint.specs.Queue.{QueueValue}
 use Rattle.macs_endpoint.specs.Value.{EndpointValue, IsAtRest, IsRxWithin, IsSoundEndpoint, IsTxWithin}
 use Rattle.macs_endpoint.specs.declared.turn.Turn.TheVariants.{Reservation}

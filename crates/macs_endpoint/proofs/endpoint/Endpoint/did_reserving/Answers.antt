@@ -12,10 +12,9 @@ use Rattle.macs_store.specs.Stepping.{Steps}
 use Rattle.macs_store.specs.Value.{standing_in}
 use Rattle.macs_endpoint.specs.Calls.{IsCall}
 use Rattle.macs_endpoint.specs.Halves.{IsNextCall, with_device}
-use Rattle.macs_endpoint.specs.Parts.{endpoint_of}
+use Rattle.macs_endpoint.specs.Parts.{endpoint_of, raise_of}
 use Rattle.macs_endpoint.specs.Queue.{QueueValue}
 use Rattle.macs_endpoint.specs.State.{Advanced, Advances}
-use Rattle.macs_endpoint.specs.PrivateTypes.{raise_of}
 use Rattle.macs_endpoint.specs.Value.{EndpointValue, IsReserving, IsSoundEndpoint, disk_in}
 use Rattle.macs_endpoint.specs.declared.fault.StepFault.TheVariants as step
 use Rattle.macs_endpoint.specs.declared.progress.Step.TheVariants.{Reserved}

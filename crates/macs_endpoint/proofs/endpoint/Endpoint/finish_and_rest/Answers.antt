@@ -1,29 +1,18 @@
-use Rattle.std.proofs.Common.{◌≡◌, ◌∙◌, Result, Ok, Err, is_err, true, false, sym, ap, subst}
+use Rattle.std.proofs.Common.{◌≡◌, ◌∙◌, Ok, Err, is_err, true, false, sym, ap}
 use Rattle.macs_endpoint.specs.Reserving.{ReservationEnds}
 use Rattle.macs_endpoint.specs.State.{no_logs}
-use Rattle.macs_endpoint.specs.declared.fault.RefillFault.{RefillFault}
 use Rattle.macs_endpoint.specs.declared.fault.RefillFault.TheVariants as refill
-use Rattle.macs_endpoint.proofs.KeptBehind.{cut-named, ended-well}
+use Rattle.macs_endpoint.proofs.KeptBehind.{ended-cut, ended-well}
 use Rattle.macs_endpoint.proofs.Rested.{rest-cut-before, rests-after}
 use Rattle.macs_endpoint.proofs.endpoint.Endpoint.finish_and_rest.Given.{Over}
 use Rattle.macs_endpoint.proofs.endpoint.Endpoint.finish_and_rest.Goals.{After-finish_reservation}
 use Rattle.macs_endpoint.proofs.endpoint.Endpoint.finish_and_rest.Goals as goal
 
 module _ (g : Over) (c : After-finish_reservation g) where
-  -- what is said of the reservation under way
-  ends : (result : Result (Unit {0}) RefillFault) → c.finish_reservation.result ≡ result
-      → ReservationEnds g.D.SectorDisk.disk c.args.self.now result c.finish_reservation.new.self
-  ends result is =
-      subst (λ (r : Result (Unit {0}) RefillFault).
-      ReservationEnds g.D.SectorDisk.disk c.args.self.now r c.finish_reservation.new.self) is
-      c.finish_reservation.ensures
-
   cut : is_err c.finish_reservation.result ≡ true
       → ReservationEnds g.D.SectorDisk.disk c.args.self.now (Err refill.Disk) c.finish_reservation.new.self
-  cut is =
-      ends (Err refill.Disk)
-      (cut-named g.D.SectorDisk.disk c.args.self.now c.finish_reservation.new.self c.finish_reservation.result is
-      c.finish_reservation.ensures)
+  cut is = ended-cut g.D.SectorDisk.disk c.args.self.now c.finish_reservation.new.self c.finish_reservation.result is
+      c.finish_reservation.ensures
 
   ended : is_err c.finish_reservation.result ≡ false
       → ReservationEnds g.D.SectorDisk.disk c.args.self.now (Ok tt) c.finish_reservation.new.self

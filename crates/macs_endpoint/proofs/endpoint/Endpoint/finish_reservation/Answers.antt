@@ -5,10 +5,9 @@ use Rattle.macs_journal.specs.declared.fault.JournalFault.{JournalFault}
 use Rattle.macs_store.specs.Stepping.{Finishes}
 use Rattle.macs_store.specs.Value.{standing_in}
 use Rattle.macs_endpoint.specs.Faults.{refill_fault_of}
-use Rattle.macs_endpoint.specs.Parts.{endpoint_of}
+use Rattle.macs_endpoint.specs.Parts.{endpoint_of, raise_of}
 use Rattle.macs_endpoint.specs.Queue.{QueueValue}
 use Rattle.macs_endpoint.specs.Reserving.{ReservationEnds}
-use Rattle.macs_endpoint.specs.PrivateTypes.{raise_of}
 use Rattle.macs_endpoint.specs.Value.{EndpointValue, IsAtRest, IsReserving, IsSoundEndpoint, is_stopped}
 use Rattle.macs_endpoint.proofs.Ended.{IsDone, faulted-ends, faulted-kept, finish-done, finished-ends, may-lift}
 use Rattle.macs_endpoint.proofs.Ended.{none-ends, none-reserving, raised-kept, raised_to, which-reserving}

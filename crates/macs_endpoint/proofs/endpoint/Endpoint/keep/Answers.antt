@@ -1,16 +1,15 @@
-use Rattle.std.proofs.Common.{◌≡◌, ◌∙◌, Some, None, Result, Ok, Err, true, false, is_err, sym, ap, subst}
+use Rattle.std.proofs.Common.{◌≡◌, ◌∙◌, Some, None, Ok, Err, true, false, is_err, sym, ap, subst}
 use Rattle.macs_config.specs.declared.command.Command.{Command}
 use Rattle.macs_endpoint.specs.KeptCommands.{KeepsCommand}
 use Rattle.macs_endpoint.specs.Parts.{endpoint_of}
 use Rattle.macs_endpoint.specs.Reserving.{ReservationEnds}
 use Rattle.macs_endpoint.specs.Value.{EndpointValue, IsSoundEndpoint, is_stopped}
 use Rattle.macs_endpoint.specs.declared.fault.CommandFault.TheVariants.{Disk}
-use Rattle.macs_endpoint.specs.declared.fault.RefillFault.{RefillFault}
 use Rattle.macs_endpoint.specs.declared.fault.RefillFault.TheVariants as refill
 use Rattle.macs_endpoint.specs.declared.turn.Turn.TheVariants.{Reservation}
 use Rattle.macs_endpoint.proofs.Working.{none-kept}
 use Rattle.macs_endpoint.proofs.KeptBehind.{behind-accepted, behind-keeps, behind-none, behind-running, cut-before}
-use Rattle.macs_endpoint.proofs.KeptBehind.{cut-free, cut-named, cut-short-kept, ended-well, stopped}
+use Rattle.macs_endpoint.proofs.KeptBehind.{cut-free, cut-short-kept, ended-cut, ended-well, stopped}
 use Rattle.macs_endpoint.proofs.Parts.{commanded}
 use Rattle.macs_endpoint.proofs.Work.{free-under_way}
 use Rattle.macs_endpoint.proofs.endpoint.Endpoint.keep.Given.{Over}
@@ -22,20 +21,10 @@ module _ (g : Over) (c : After-finish_reservation g) where
   free : c.args.self.now.under_way ≡ None
   free = free-under_way c.args.self.now c.facts.ensures c.requires.none c.requires.running
 
-  -- what is said of the reservation under way
-  ends : (result : Result (Unit {0}) RefillFault) → c.finish_reservation.result ≡ result
-      → ReservationEnds g.D.SectorDisk.disk c.args.self.now result c.finish_reservation.new.self
-  ends result is =
-      subst (λ (r : Result (Unit {0}) RefillFault).
-      ReservationEnds g.D.SectorDisk.disk c.args.self.now r c.finish_reservation.new.self) is
-      c.finish_reservation.ensures
-
   cut : is_err c.finish_reservation.result ≡ true
       → ReservationEnds g.D.SectorDisk.disk c.args.self.now (Err refill.Disk) c.finish_reservation.new.self
-  cut is =
-      ends (Err refill.Disk)
-      (cut-named g.D.SectorDisk.disk c.args.self.now c.finish_reservation.new.self c.finish_reservation.result is
-      c.finish_reservation.ensures)
+  cut is = ended-cut g.D.SectorDisk.disk c.args.self.now c.finish_reservation.new.self c.finish_reservation.result is
+      c.finish_reservation.ensures
 
   ended : is_err c.finish_reservation.result ≡ false
       → ReservationEnds g.D.SectorDisk.disk c.args.self.now (Ok tt) c.finish_reservation.new.self

@@ -4,7 +4,7 @@ use Rattle.macs_journal.specs.declared.fault.JournalFault.{JournalFault}
 use Rattle.macs_journal.specs.declared.fault.JournalFault.TheVariants as journal
 use Rattle.macs_endpoint.specs.Faults.{refill_fault_of}
 use Rattle.macs_endpoint.specs.Reserving.{Raised, StartsRaise}
-use Rattle.macs_endpoint.specs.PrivateTypes.{raise_of}
+use Rattle.macs_endpoint.specs.Parts.{raise_of}
 use Rattle.macs_endpoint.specs.Value.{EndpointValue}
 use Rattle.macs_endpoint.proofs.Ended.{begun-raised, spent-raised}
 use Rattle.macs_endpoint.proofs.endpoint.Endpoint.raise.Given.{Over}

@@ -4,7 +4,7 @@ use Rattle.std.proofs.lemmas.Result.{err_from_is_err_and}
 use Rattle.macs_endpoint.specs.Needed.{raise_in}
 use Rattle.macs_endpoint.specs.Reserving.{Raised}
 use Rattle.macs_endpoint.specs.State.{no_logs}
-use Rattle.macs_endpoint.specs.PrivateTypes.{raise_of}
+use Rattle.macs_endpoint.specs.Parts.{raise_of}
 use Rattle.macs_endpoint.specs.declared.fault.RefillFault.{RefillFault}
 use Rattle.macs_endpoint.proofs.Working.{at-rest}
 use Rattle.macs_endpoint.proofs.RefillCall.{cut-refill, done-refill, reserves-none, reserves-on, turn-less, turn-moves}

@@ -4,10 +4,9 @@ use Rattle.macs_store.specs.Stepping.{HasUnderWay, Starts}
 use Rattle.macs_store.specs.Value.{IsIdle, standing_in}
 use Rattle.macs_endpoint.specs.Ceilings.{standing_with_raise}
 use Rattle.macs_endpoint.specs.Needed.{raise_in}
-use Rattle.macs_endpoint.specs.Parts.{endpoint_of}
+use Rattle.macs_endpoint.specs.Parts.{endpoint_of, raise_of}
 use Rattle.macs_endpoint.specs.Reserving.{StartsRaise}
 use Rattle.macs_endpoint.specs.State.{no_logs, rx_side, tx_side}
-use Rattle.macs_endpoint.specs.PrivateTypes.{raise_of}
 use Rattle.macs_endpoint.specs.Value.{EndpointValue, IsSoundEndpoint, is_stopped, state_of}
 use Rattle.macs_endpoint.proofs.Begun.{first-rises}
 use Rattle.macs_endpoint.proofs.Ended.{begun-kept, begun-reserving}

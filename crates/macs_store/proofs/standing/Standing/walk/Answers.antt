@@ -1,7 +1,6 @@
 use Rattle.std.proofs.Common.{◌∙◌, ap}
-use Rattle.macs_store.specs.Snapshot.{snapshot}
+use Rattle.macs_store.specs.Snapshot.{snapshot, new_walk, walk_past_all}
 use Rattle.macs_store.specs.Table.{StandingValue, standing_of}
-use Rattle.macs_store.specs.Walk.{new_walk, walk_past_all}
 use Rattle.macs_store.specs.declared.walk.Walk.{Walk}
 use Rattle.macs_store.proofs.Passing.{snapshot-walked}
 use Rattle.macs_store.proofs.standing.Standing.walk.Goals as goal
