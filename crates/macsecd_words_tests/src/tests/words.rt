@@ -242,8 +242,8 @@ const TAKEN: &[(&[&str], Parts<'static>)] = &[
     (&["about"], ("about", ["", "", "", "", ""], [0, 0])),
 ];
 
-/// What a relay serves: a control socket, a file of counters, and a buffer in octets; and the socket
-/// of its keeper.
+/// What a relay serves: a control socket, a file of counters, and a buffer in octets; and the
+/// socket of its keeper.
 type Served<'a> = (&'a str, &'a str, u32, &'a str);
 
 /// Words of a relay, and what it serves.
