@@ -1,6 +1,6 @@
 //! A write that fails may have torn its sector all the same.
 
-ghost use Rattle.std.specs.Prelude.{◌≡◌, ◌<◌, ◌+◌, if◌then◌else◌};
+ghost use Rattle.std.specs.Prelude.{◌≡◌, ◌<◌, ◌+◌, true, if◌then◌else◌};
 ghost use Rattle.macs_disk.specs.Disk.{IsHonest, now};
 
 use super::Call::{Fill, Read};
