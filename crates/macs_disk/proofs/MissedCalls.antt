@@ -138,13 +138,3 @@ module _ {D : Type 0} (disk : D → Disk) (old new : FuseValue D) (left : old.le
       → Writes (now (disk_of_fuse disk old)) (now (disk_of_fuse disk new)) place octets answer
   missed-write (Ok x) place octets is = absurd cc
   missed-write (Err e) place octets is = record { ok = tt; err = inl still }
-
--- ---- a call of a disk whose calls somebody else makes
-
--- it is missed
-pub missed-by-remote : {D T E : Type 0} (disk : D → Disk) (old new : FuseValue D) → old.left ≡ 0 → old.blow ≡ EachCall
-    → new ≡ fuse_after_stopped_call old → (answer : Result T E) → IsErr answer → IsCounted disk old
-    → IsDeviceCall (disk_of_fuse disk old) (disk_of_fuse disk new) answer
-missed-by-remote disk old new left each after answer is counted =
-    missed-by-fuse disk old new left (λ none. absurd (let no = sym each ∙ none in cc)) (λ same. after)
-    (λ fill once. absurd (let no = sym each ∙ once in cc)) answer is counted

@@ -4,7 +4,6 @@ pub mod DeviceCalls
 pub mod Messages
 pub mod Runs
 pub mod Fuses
-pub mod RemoteDisks
 pub mod CallLists
 pub mod Memory
 pub mod MemDisks

@@ -18,7 +18,6 @@ mod layout;
 mod log;
 mod memory;
 pub mod messages;
-mod remote;
 mod renewal;
 mod settled_file;
 
@@ -34,6 +33,5 @@ pub use file_opening::make_file;
 pub use fuse::Fuse;
 pub use layout::{Layout, spaced_mark};
 pub use memory::{MemDisk, MemFault};
-pub use remote::RemoteDisk;
 pub use renewal::Renewal;
 pub use settled_file::SettledFile;

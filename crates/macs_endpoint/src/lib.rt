@@ -15,7 +15,6 @@ mod ports;
 mod progress;
 mod queue;
 mod refilling;
-mod remote;
 pub mod reserved;
 mod resting;
 mod serving;

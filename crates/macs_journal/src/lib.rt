@@ -21,7 +21,6 @@ pub mod laws;
 mod place;
 mod record_source;
 mod recovery;
-mod remote;
 mod slots;
 mod stepping;
 mod under_way;

@@ -10,7 +10,6 @@ pub mod laws;
 mod meaning;
 mod next_numbers;
 mod opening;
-mod remote;
 mod resting;
 mod snapshot;
 mod standing;
