@@ -9,6 +9,9 @@ reserves packet numbers between frames that go out, `show` of a file of format o
 file of format one is what the program itself made, with version 1 in its head; `tools/older_program.py` has those of an older program. A run is first traced whole: which
 system calls it makes on its disk file, and the octets that it writes. Then it is made again for each of these calls, and killed as that call begins.
 
+That relay also rests over the disk file of a keeper (`keep`), and one of the two is killed: the keeper at each of its calls on the disk file; the relay, with no power loss
+after it, at each call by which it sends, receives or waits, of whichever socket.
+
 A kill alone loses nothing, since the operating system keeps what was written. So the power loss is made by hand: a sector that was written and not synced is left
 with one of six contents: the octets of the last sync, the last write, zeros, ones, an open gate, or the first half of the last write and the octets of the last
 sync after it. The same is left in each such sector; where there are two, each pair.
@@ -19,9 +22,12 @@ What is asserted of what `show` finds then:
   protect  the configuration as it was, and a next packet number above all that went out;
   show     what it shows of the file of format two, to the octet, and a head of version 2 then;
   rest     the configuration as it was, and the next packet number as it was or that after the block, of which each is seen; as it was once the last line was printed.
+With a keeper it is as of `rest`. A relay whose keeper was killed ends as `disk`, with status 4, but for the keeper's last call: then it has ended as planned. A keeper whose
+relay was killed ends with status 0, and prints nothing.
 It prints how many kills and how many power losses there were.
 """
 
+import itertools
 import os
 import re
 import shutil
@@ -29,6 +35,7 @@ import struct
 import subprocess
 import sys
 import tempfile
+import time
 
 TOP = os.path.abspath(os.path.join(os.path.dirname(__file__), ".."))
 PROVE = os.path.join(TOP, "tools/prove")
@@ -37,6 +44,8 @@ MARK = b"MSECOPEN"
 OPEN = MARK + bytes(SECTOR - len(MARK))
 HEAD = b"MSECHEAD"
 CALLS = ["openat", "pread64", "pwrite64", "fsync", "fdatasync", "ftruncate", "fallocate", "flock", "fcntl", "rename", "unlink", "close"]
+# Those by which a relay sends, receives and waits.
+EXCHANGES = ["sendto", "recvfrom", "poll"]
 SCI = "0200000000010001"
 FRAMES = 400
 BLOCK = "32"
@@ -73,14 +82,41 @@ def program():
     return os.path.join(TOP, told.split()[-1])
 
 
-def traced(disk, words, extra=()):
-    """Runs the program under strace: its output, and its system calls on the disk file, the new one beside it, and their folder."""
-    trace = disk + ".trace"
+def tracing(disk, words, extra=()):
+    """The words that run the program under strace, which writes its system calls on the disk file, the new one beside it, and their folder."""
     paths = [word for path in (disk, disk + ".new", os.path.dirname(disk)) for word in ("-P", path)]
-    command = ["strace", "-o", trace, "-xx", "-s", "70000", "-e", "trace=" + ",".join(CALLS), *paths, *extra, *words]
-    done = subprocess.run(command, capture_output=True)
-    lines = [line for line in open(trace) if not line.startswith(("+++", "---"))]
-    return done, lines
+    return ["strace", "-o", disk + ".trace", "-xx", "-s", "70000", "-e", "trace=" + ",".join(CALLS), *paths, *extra, *words]
+
+
+def calls_on(disk):
+    """The system calls that strace wrote."""
+    return [line for line in open(disk + ".trace") if not line.startswith(("+++", "---"))]
+
+
+def traced(disk, words, extra=()):
+    """Runs the program under strace: its output, and its system calls."""
+    done = subprocess.run(tracing(disk, words, extra), capture_output=True)
+    return done, calls_on(disk)
+
+
+def listens(name):
+    """Whether a socket of this name waits for clients, as /proc/net/unix says by a flag: it has its name a little earlier."""
+    with open("/proc/net/unix") as sockets:
+        return any(it.split()[3] == "00010000" and it.split()[-1] == name for it in sockets)
+
+
+def kept(disk, keeping, relaying):
+    """Runs a keeper of a disk file, and a relay over that once the keeper waits for it, until both have ended: how each did."""
+    keeper = subprocess.Popen(keeping, stdout=subprocess.PIPE, stderr=subprocess.PIPE)
+    while not listens(disk + ".keeper") and keeper.poll() is None:
+        time.sleep(0.005)
+    relay = subprocess.run(relaying, capture_output=True)
+    printed = keeper.communicate(timeout=60)
+    return relay, subprocess.CompletedProcess(keeping, keeper.returncode, *printed)
+
+
+def was_killed(process):
+    return process.returncode in (-9, 137)
 
 
 def octets_in(text):
@@ -186,40 +222,105 @@ class Folder:
                     yield of.with_blocks(image), image
 
 
-def kill_at_each(folder, name, start, words, judge, block=SECTOR):
-    """A run that begins with the disk file `start`, or none, is killed at each of its calls on the disk file. How many kills and power losses that were."""
-    disk = os.path.join(folder, "disk")
+class Losses:
+    """Kills of runs that begin with the disk file `start`, or none, and the power losses after them, each of which is judged."""
 
-    def begin():
-        for left in (disk, disk + ".new", os.path.join(folder, "out"), os.path.join(folder, "control")):
+    def __init__(self, folder, start, judge, block=SECTOR):
+        self.folder, self.disk = folder, os.path.join(folder, "disk")
+        self.start, self.judge, self.block = start, judge, block
+        self.kills = self.count = 0
+
+    def begin(self):
+        """Puts the files to where a run begins."""
+        for left in (self.disk, self.disk + ".new", self.disk + ".keeper", os.path.join(self.folder, "out"), os.path.join(self.folder, "control")):
             if os.path.exists(left):
                 os.remove(left)
-        if start:
-            shutil.copyfile(start, disk)
+        if self.start:
+            shutil.copyfile(self.start, self.disk)
+        self.files = Folder(self.disk, self.block)
 
-    begin()
-    done, lines = traced(disk, words(disk))
-    assert done.returncode == 0, done
-    counts, kills, losses = {}, 0, 0
+    def lose(self, calls, printed):
+        """After a kill: leaves what a power loss may leave of these calls, and judges it."""
+        for each in calls:
+            self.files.follow(each)
+        self.kills += 1
+        for octets, image in self.files.left():
+            if os.path.exists(self.disk):
+                os.remove(self.disk)
+            if octets is not None:
+                open(self.disk, "wb").write(octets)
+            self.count += 1
+            self.judge(self.disk, printed.decode(), image)
+
+    def told(self, name):
+        print(f"{name}: killed at {self.kills} system calls, {self.count} power losses", flush=True)
+        return self.kills, self.count
+
+
+def killing(call, when):
+    """The options of strace that kill a program as it begins a system call for the time `when`."""
+    return ["-e", f"inject={call}:signal=KILL:when={when}"]
+
+
+def killing_at_each(lines):
+    """The traced calls, each with the options of strace that kill the program as it begins."""
+    counts = {}
     for line in lines:
         call = re.match(r"\w+", line)[0]
         counts[call] = counts.get(call, 0) + 1
-        begin()
-        files = Folder(disk, block)
-        killed, made = traced(disk, words(disk), ["-e", f"inject={call}:signal=KILL:when={counts[call]}"])
-        assert killed.returncode == -9 or killed.returncode == 137, (line, killed)
-        for each in made:
-            files.follow(each)
-        kills += 1
-        for octets, image in files.left():
-            if os.path.exists(disk):
-                os.remove(disk)
-            if octets is not None:
-                open(disk, "wb").write(octets)
-            losses += 1
-            judge(disk, killed.stdout.decode(), image)
-    print(f"{name}: killed at {kills} system calls, {losses} power losses", flush=True)
-    return kills, losses
+        yield line, killing(call, counts[call])
+
+
+def kill_at_each(folder, name, start, words, judge, block=SECTOR):
+    """A run that begins with the disk file `start`, or none, is killed at each of its calls on the disk file. How many kills and power losses that were."""
+    losses = Losses(folder, start, judge, block)
+    losses.begin()
+    done, lines = traced(losses.disk, words(losses.disk))
+    assert done.returncode == 0, done
+    for line, options in killing_at_each(lines):
+        losses.begin()
+        killed, made = traced(losses.disk, words(losses.disk), options)
+        assert was_killed(killed), (line, killed)
+        losses.lose(made, killed.stdout)
+    return losses.told(name)
+
+
+def kill_keeper_at_each(folder, start, keeping, relaying, judge):
+    """The keeper of a relay's disk file is killed at each of its calls on that."""
+    losses = Losses(folder, start, judge)
+    disk = losses.disk
+    losses.begin()
+    both = kept(disk, tracing(disk, keeping(disk)), relaying(disk))
+    assert [it.returncode for it in both] == [0, 0], both
+    lines = calls_on(disk)
+    for count, (line, options) in enumerate(killing_at_each(lines), 1):
+        losses.begin()
+        relay, keeper = kept(disk, tracing(disk, keeping(disk), options), relaying(disk))
+        assert was_killed(keeper), (line, keeper)
+        # Its last call comes after the relay's end.
+        ended = (4, b"macsecd: disk\n") if count < len(lines) else (0, b"")
+        assert (relay.returncode, relay.stderr) == ended, (line, relay)
+        losses.lose(calls_on(disk), relay.stdout)
+    losses.told("rest, the keeper")
+
+
+def kill_kept_at_each(folder, start, keeping, relaying, judge):
+    """A relay over the disk file of a keeper is killed at each call by which it sends, receives or waits. How many these are differs from run to run: it is made anew until it
+    is not killed. A power loss then leaves what one leaves after a kill of the keeper."""
+    losses = Losses(folder, start, judge)
+    for call in EXCHANGES:
+        for when in itertools.count(1):
+            losses.begin()
+            # strace is not between the relay and the shell, whose signal stops it.
+            tracer = ["strace", "-D", "-o", os.devnull, "-e", "trace=" + call, *killing(call, when)]
+            relay, keeper = kept(losses.disk, keeping(losses.disk), relaying(losses.disk, tracer))
+            assert (keeper.returncode, keeper.stdout, keeper.stderr) == (0, b"", b""), (call, when, keeper)
+            judge(losses.disk, relay.stdout.decode(), {})
+            if not was_killed(relay):
+                assert when > 1 and relay.returncode == 0, (call, when, relay)
+                break
+            losses.kills += 1
+    losses.told("rest, the relay of a keeper")
 
 
 def show(macsecd, disk):
@@ -301,26 +402,38 @@ def main():
             assert found.returncode == 0 and found.stdout == shown, found
             assert HEAD + b"\0\0\0\2" in open(disk, "rb").read(), disk
 
-        found_next = set()
-
         def judge_rest(disk, printed, _image):
             found = show(macsecd, disk)
             assert configuration(found.stdout) == after[-1], found
             found_next.add(following(found.stdout))
             assert not printed or following(found.stdout) == following(shown), (printed, found)
 
-        def stopped_relay(disk):
-            """A relay that nothing comes to, which gets SIGTERM once it has reserved a block."""
+        def stopped_relay(disk, before=(), more=()):
+            """A relay that nothing comes to, which gets SIGTERM once it has reserved a block: the disk file is another one then."""
             ends = ["127.0.0.1:0", "127.0.0.1:9", "127.0.0.1:0", "127.0.0.1:9"]
-            later = '(sleep 0.5; kill -TERM $$) >/dev/null 2>&1 & exec "$@"'
-            return ["env", "--block-signal=TERM", "sh", "-c", later, "sh", macsecd, "relay", disk, *ends, "--wait", "10", "--control", at("control")]
+            later = '(while kill -0 $$ && cmp -s "$1" "$2"; do sleep 0.1; done; sleep 0.3; kill -TERM $$) >/dev/null 2>&1 & shift 2; exec "$@"'
+            relay = [macsecd, "relay", disk, *ends, "--wait", "100", "--control", at("control"), *more]
+            return ["env", "--block-signal=TERM", "sh", "-c", later, "sh", disk, at("ready"), *before, *relay]
+
+        def keeping(disk):
+            return [macsecd, "keep", disk, disk + ".keeper"]
+
+        def stopped_kept_relay(disk, before=()):
+            return stopped_relay(disk, before, ["--keeper", disk + ".keeper"])
 
         kill_at_each(folder, "format", None, lambda disk: [macsecd, "format", disk, SCI, BLOCK, BLOCK], judge_format)
         kill_at_each(folder, "apply", at("new"), lambda disk: [macsecd, "apply", disk, at("commands")], judge_apply)
         kill_at_each(folder, "protect", at("ready"), lambda disk: [macsecd, "protect", disk, at("frames"), at("out")], judge_protect)
         kill_at_each(folder, "migrate", at("old"), lambda disk: [macsecd, "show", disk], judge_migrated)
-        kill_at_each(folder, "rest", at("ready"), stopped_relay, judge_rest)
-        assert found_next == {following(shown), following(shown) + int(BLOCK)}, found_next
+        rests = [
+            lambda: kill_at_each(folder, "rest", at("ready"), stopped_relay, judge_rest),
+            lambda: kill_keeper_at_each(folder, at("ready"), keeping, stopped_kept_relay, judge_rest),
+            lambda: kill_kept_at_each(folder, at("ready"), keeping, stopped_kept_relay, judge_rest),
+        ]
+        for rest in rests:
+            found_next = set()
+            rest()
+            assert found_next == {following(shown), following(shown) + int(BLOCK)}, found_next
         print(f"protect: up to {max(most)} frames had gone out")
     finally:
         shutil.rmtree(folder)

@@ -1,11 +1,11 @@
 #!/usr/bin/env python3
 """Stops and starts both ends of a link as planned, with frames between, and looks for packet numbers that are skipped and frames that are late.
 
-    python3 tools/planned_restarts.py PROGRAM [ROUNDS]
+    python3 tools/planned_restarts.py PROGRAM [ROUNDS] [--keeper]
 
-Two relays run over loopback with TX of 1,024 and RX of 64, each with a control socket. In each of ROUNDS rounds, 5 unless another number is named, 100 frames go through
-both, one after another; then each relay is asked to stop. What is asserted: each frame comes out, the right end counts none as late, and `show` then has exactly the number
-after the last one that went out as the next one of both ends.
+Two relays run over loopback with TX of 1,024 and RX of 64, each with a control socket, and with `--keeper` each over the disk file of a keeper. In each of ROUNDS rounds, 5
+unless another number is named, 100 frames go through both, one after another; then each relay is asked to stop. What is asserted: each frame comes out, the right end counts
+none as late, relays and keepers end with status 0, and `show` then has exactly the number after the last one that went out as the next one of both ends.
 """
 import os
 import re
@@ -14,6 +14,10 @@ import subprocess
 import sys
 import tempfile
 import time
+
+# Nothing is left in the checkout.
+sys.dont_write_bytecode = True
+from killed_program import listens  # pylint: disable=wrong-import-position
 
 TX, RX, FRAMES = 1_024, 64, 100
 LEFT, RIGHT = "0200000000010001", "0200000000020001"
@@ -49,8 +53,8 @@ offset = 0
 class Link:
     """Both ends, and a host on each side."""
 
-    def __init__(self, program, folder):
-        self.program, self.folder = program, folder
+    def __init__(self, program, folder, has_keepers):
+        self.program, self.folder, self.has_keepers = program, folder, has_keepers
         self.hosts = [socket.socket(socket.AF_INET, socket.SOCK_DGRAM) for _ in range(6)]
         for it in self.hosts:
             it.bind(("127.0.0.1", 0))
@@ -80,20 +84,28 @@ class Link:
     def start(self, name, own1, peer1, own2, peer2):
         ends = [f"127.0.0.1:{self.ports[it]}" for it in (own1, peer1, own2, peer2)]
         words = ["relay", self.at(name), *ends, "--wait", "1000", "--control", self.at(name + ".control")]
-        relay = subprocess.Popen([self.program, *words], stdout=subprocess.DEVNULL)
-        while not os.path.exists(self.at(name + ".control")):
+        running = []
+        if self.has_keepers:
+            running.append(self.run_until_listening(name + ".keeper", "keep", self.at(name), self.at(name + ".keeper")))
+            words += ["--keeper", self.at(name + ".keeper")]
+        return [*running, self.run_until_listening(name + ".control", *words)]
+
+    def run_until_listening(self, socket_name, *words):
+        process = subprocess.Popen([self.program, *words], stdout=subprocess.DEVNULL)
+        while not listens(self.at(socket_name)):
+            assert process.poll() is None, words
             time.sleep(0.01)
-        return relay
+        return process
 
     def round(self):
         """How many frames came out of those that went in."""
-        relays = {"left": self.start("left", 1, 0, 2, 3), "right": self.start("right", 4, 5, 3, 2)}
+        ends = {"left": self.start("left", 1, 0, 2, 3), "right": self.start("right", 4, 5, 3, 2)}
         came = sum(self.pass_frame() for _ in range(FRAMES))
         late = re.findall(r"late (\d+)", self.ask("right", "counters"))
         assert late and set(late) == {"0"}, late
-        for name, relay in relays.items():
+        for name, processes in ends.items():
             self.ask(name, "stop")
-            assert relay.wait(timeout=10) == 0, name
+            assert [it.wait(timeout=10) for it in processes] == [0] * len(processes), name
         return came
 
     def pass_frame(self):
@@ -106,11 +118,13 @@ class Link:
 
 
 def main():
-    if not 2 <= len(sys.argv) <= 3:
+    has_keepers = "--keeper" in sys.argv[1:]
+    words = [it for it in sys.argv[1:] if it != "--keeper"]
+    if not 1 <= len(words) <= 2:
         sys.exit(__doc__)
-    rounds = int(sys.argv[2]) if len(sys.argv) > 2 else 5
+    rounds = int(words[1]) if len(words) > 1 else 5
     with tempfile.TemporaryDirectory() as folder:
-        link = Link(os.path.abspath(sys.argv[1]), folder)
+        link = Link(os.path.abspath(words[0]), folder, has_keepers)
         first = link.next_number("left")
         for count in range(1, rounds + 1):
             came = link.round()

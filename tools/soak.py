@@ -22,6 +22,10 @@ import sys
 import tempfile
 import time
 
+# Nothing is left in the checkout.
+sys.dont_write_bytecode = True
+from killed_program import listens  # pylint: disable=wrong-import-position
+
 TOP = os.path.abspath(os.path.join(os.path.dirname(__file__), ".."))
 LEFT, RIGHT = "0200000000010001", "0200000000020001"
 TX, RX, RATE = 1_024, 64, 500
@@ -53,15 +57,15 @@ class End:
     def start(self):
         slow = {"LD_PRELOAD": self.soak.library, "SLOW_SYNC": str(random.choice(SLOWER))}
         self.keeper = subprocess.Popen([self.soak.program, "keep", self.at(), self.at(".keeper")], env={**os.environ, **slow})
-        self.await_file(".keeper")
+        self.await_socket(".keeper")
         ends = [f"127.0.0.1:{port}" for pair in zip(self.own, self.peers) for port in pair]
         words = ["relay", self.at(), *ends, "--wait", "1000", "--control", self.at(".control"), "--keeper", self.at(".keeper")]
         self.relay = subprocess.Popen([self.soak.program, *words], stdout=subprocess.DEVNULL, stderr=subprocess.DEVNULL)
-        self.await_file(".control")
+        self.await_socket(".control")
 
-    def await_file(self, more):
+    def await_socket(self, more):
         until = time.monotonic() + 20
-        while not os.path.exists(self.at(more)):
+        while not listens(self.at(more)):
             assert time.monotonic() < until, f"{self.name}: no {more}"
             time.sleep(0.01)
 
