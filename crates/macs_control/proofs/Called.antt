@@ -3,7 +3,8 @@ use Rattle.std.proofs.Common.{◌≡◌, ◌∙◌, inl, inr, ℕ, Bool, true, f
 use Rattle.std.proofs.Common.{refl, ap}
 use Rattle.std.proofs.lemmas.List.{append_assoc}
 use Rattle.macs_control.specs.Binding.{Binds, Clears, IsNotNamed, Makes, Reaches}
-use Rattle.macs_control.specs.Binding.{Removes, SetsMode, SocketCall, with_calls}
+use Rattle.macs_control.specs.Binding.{Removes, SetsMode, SocketCall}
+use Rattle.macs_control.specs.Calls.{with_calls}
 use Rattle.macs_control.specs.declared.binding.Reach.TheVariants as found
 
 -- some calls, and then more

@@ -1,9 +1,9 @@
 -- What a connection carries, part after part.
-use Rattle.std.proofs.Common.{◌≡◌, ◌∙◌, ◌<◌, ◌++◌, ℕ, true, List, [], Option, Some, None, refl, sym, ap}
+use Rattle.std.proofs.Common.{◌≡◌, ◌∙◌, ◌<◌, ◌++◌, ℕ, Bool, true, List, [], Option, Some, None, Err, refl, sym, ap}
 use Rattle.std.proofs.Common.{length}
 use Rattle.std.proofs.lemmas.List.{append-nil, append_assoc}
 use Rattle.macs_control.specs.Asking.{Reads, ReadsAndFinds, conversation}
-use Rattle.macs_control.specs.Keepers.{IsCut, IsCutAfter, Takes, TakesLast}
+use Rattle.macs_control.specs.Keepers.{IsCut, IsCutAfter, Takes, TakesLast, TakesMore}
 use Rattle.macs_control.specs.Links.{Fills, Link}
 use Rattle.macs_control.specs.declared.connection.Taken.{Taken}
 use Rattle.macs_control.specs.declared.connection.Taken.TheVariants.{Octets, Nothing, Ended, Gone}
@@ -57,6 +57,12 @@ pub cut-within : (size : ℕ) (start : Option Link) (held : List ℕ) (end : Cut
     → IsCutAfter held start end new → IsCut size start end new
 cut-within size start held cut.Ended new few last = (held, few, last)
 cut-within size start held cut.Gone new few part = part
+
+-- over a steady connection it is cut by its end alone
+pub steady-end : (end : Cut) (before now : ℕ) (steady : Bool) → TakesMore (Err end) before now steady
+    → end ≡ cut.Ended
+steady-end cut.Ended before now steady takes = refl
+steady-end cut.Gone before now steady takes = absurd takes
 
 -- ---- a conversation over it
 

@@ -1,6 +1,6 @@
 -- The system calls that make a control socket, and their order.
 use Rattle.std.specs.Prelude.{◌≡◌, ◌⊎◌, ◌++◌, ℕ, Bool, true, false, List, [], ◌∷◌, Option}
-use Rattle.std.specs.Option.{option_map}
+use Rattle.macs_control.specs.Calls.{with_calls}
 use Rattle.macs_control.specs.declared.binding.Reach.{Reach}
 use Rattle.macs_control.specs.declared.binding.Reach.TheVariants as found
 
@@ -13,10 +13,6 @@ pub data SocketCall : Type 0 where
   SetsMode : (mode : ℕ) → (done : Bool) → SocketCall
   Binds : (path : List ℕ) → (done : Bool) → SocketCall
   Listens : (done : Bool) → SocketCall
-
--- the known calls, if they are known, and these
-abbrev pub with_calls : Option (List SocketCall) → List SocketCall → Option (List SocketCall)
-with_calls known more = option_map (λ before. before ++ more) known
 
 -- the calls that find a name free, or free it: the second of them removes a stale socket
 abbrev pub IsClear : List ℕ → List SocketCall → Type 0

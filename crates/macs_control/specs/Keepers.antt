@@ -1,7 +1,7 @@
 -- What a keeper does for its client: a greeting, and then for each request, one after another, one call of the disk and
 -- one answer.
 use Rattle.std.specs.Prelude.{◌≡◌, ◌<◌, ◌++◌, ⊤, ℕ, Bool, true, false, List, [], ◌∷◌, length, Option, Some, None}
-use Rattle.std.specs.Prelude.{Result}
+use Rattle.std.specs.Prelude.{Result, Ok, Err}
 use Rattle.macs_disk.specs.Disk.{Disk}
 use Rattle.macs_disk.specs.DeviceCalls.{IsCall, IsMade, IsWithin}
 use Rattle.macs_disk.specs.Messages.{answer_octets, answer_to, greeting_octets, request_of}
@@ -37,7 +37,14 @@ abbrev pub IsCutAfter : List ℕ → Option Link → Cut → Option Link → Typ
 IsCutAfter held old cut.Ended new = TakesLast old held new
 IsCutAfter held old cut.Gone new = (part : List ℕ) × Takes old part new
 
--- the same as the end of work for a client
+-- More of a message is taken from a connection that is known to be steady, and it still is: there are more octets now
+-- than before; or the other side has ended
+abbrev pub TakesMore : Result (Unit {0}) Cut → ℕ → ℕ → Bool → Type 0
+TakesMore (Ok done) before now steady = (before < now) × (steady ≡ true)
+TakesMore (Err cut.Ended) before now steady = ⊤
+TakesMore (Err cut.Gone) before now steady = ⊥
+
+-- a cut as the end of work for a client
 abbrev pub end_of_cut : Cut → KeepEnd
 end_of_cut cut.Ended = Ended
 end_of_cut cut.Gone = Gone

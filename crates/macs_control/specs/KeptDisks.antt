@@ -1,11 +1,12 @@
 -- A disk that a keeper keeps, as its client knows it.
-use Rattle.std.specs.Prelude.{◌≡◌, ◌+◌, ◌-◌, ◌^◌, ◌==◌, ◌||◌, ℕ, Bool, true, false, if◌then◌else◌, Option, Result, Ok}
-use Rattle.std.specs.Prelude.{Err, IsErr}
+use Rattle.std.specs.Prelude.{◌≡◌, ◌<◌, ◌⊎◌, ◌+◌, ◌-◌, ◌^◌, ◌==◌, ◌||◌, ℕ, Bool, true, false, if◌then◌else◌, List}
+use Rattle.std.specs.Prelude.{length, Option, Result, Ok, Err, IsErr}
 use Rattle.macs_disk.specs.Disk.{Disk}
 use Rattle.macs_disk.specs.Messages.{greeting_octets}
 use Rattle.macs_disk.specs.States.{settled_state, zero_sector}
-use Rattle.macs_control.specs.Keepers.{Takes}
+use Rattle.macs_control.specs.Keepers.{IsCut, Takes}
 use Rattle.macs_control.specs.Links.{Link}
+use Rattle.macs_control.specs.declared.keeping.cut.Cut.TheVariants as cut
 
 -- what a client knows of a disk: how many sectors it has; the calls that were answered, and the failures among them;
 -- and whether one failed. A call that waits for its answer changes nothing of it.
@@ -48,3 +49,30 @@ pub record EndsSo {T E : Type 0} (old : KeptDiskValue) (result : Result T E) (ne
 abbrev pub IsOpened : Option Link → KeptDiskValue → Type 0
 IsOpened link it = (greeted : Option Link) × Takes link (greeting_octets it.sectors) greeted
     × (it ≡ record { sectors = it.sectors; clock = 0; failures = 0; is_failed = false })
+
+-- octets that are the greeting for no number of sectors
+abbrev pub IsNoGreeting : List ℕ → Type 0
+IsNoGreeting octets = (sectors : ℕ) → sectors < 2 ^ 64 → octets ≡ greeting_octets sectors → ⊥
+
+-- no greeting is taken from a connection: the keeper ends before its last octet; the connection fails, which one that
+-- is known to be steady does not; or what comes is not a greeting
+abbrev pub GreetsNot : Option Link → Bool → Type 0
+GreetsNot link steady = (left : Option Link) × (
+    IsCut 16 link cut.Ended left
+    ⊎ ((steady ≡ false) × IsCut 16 link cut.Gone left)
+    ⊎ ((octets : List ℕ) × (length octets ≡ 16) × IsNoGreeting octets × Takes link octets left))
+
+-- ---- where a keeper is found
+
+-- what is known of a connection to a keeper: what it carries, and whether it is steady
+pub record KeeperLine : Type 0 where
+  pub link : Option Link
+  pub steady : Bool
+
+-- the same of a connection of any kind
+abbrev pub line_of : {C : Type 0} → (C → Option Link) → (C → Bool) → C → KeeperLine
+line_of link steady connection = record { link = link connection; steady = steady connection }
+
+-- a connection is asked for to the keeper with this name, and comes or does not
+pub data KeeperCall : Type 0 where
+  Connects : (path : List ℕ) → (line : Option KeeperLine) → KeeperCall

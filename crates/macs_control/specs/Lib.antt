@@ -7,6 +7,7 @@ pub mod Doors
 pub mod Newcomers
 pub mod ControlSockets
 pub mod Watching
+pub mod Calls
 pub mod Binding
 pub mod Notices
 pub mod Signals

@@ -1,5 +1,6 @@
 -- Octets received and sent over a connection, and lines made of them.
-use Rattle.std.specs.Prelude.{◌≡◌, ◌≢◌, ◌≤◌, ◌++◌, ⊤, ℕ, Bool, true, false, List, [], ◌∷◌, take, Option, Some, None}
+use Rattle.std.specs.Prelude.{◌≡◌, ◌≢◌, ◌<◌, ◌≤◌, ◌++◌, ⊤, ℕ, Bool, true, false, List, [], ◌∷◌, take, Option, Some}
+use Rattle.std.specs.Prelude.{None}
 use Rattle.macs_control.specs.declared.connection.Taken.{Taken}
 use Rattle.macs_control.specs.declared.connection.Taken.TheVariants.{Octets, Nothing, Ended, Gone}
 use Rattle.macs_control.specs.declared.seat.Hearing.{Hearing}
@@ -17,6 +18,17 @@ pub record Link : Type 0 where
 abbrev pub IsAtMost : Taken → ℕ → Type 0
 IsAtMost (Octets count) room = count ≤ room
 IsAtMost other room = ⊤
+
+-- a look that finds octets or the end
+abbrev pub FindsMore : Taken → Type 0
+FindsMore (Octets count) = 0 < count
+FindsMore Ended = ⊤
+FindsMore other = ⊥
+
+-- how many octets a look finds
+abbrev pub count_of : Taken → ℕ
+count_of (Octets count) = count
+count_of other = 0
 
 -- The first octets that arrived are taken; or none, and nothing is lost. After the end no more arrive
 abbrev pub TakesOctets : Option Link → Option Link → List ℕ → Taken → Type 0

@@ -2,8 +2,8 @@
 use Rattle.std.specs.Prelude.{◌≡◌, ◌⊎◌, ◌++◌, ℕ, Bool, true, false, List, [], ◌∷◌, Option, Some, None}
 use Rattle.std.specs.Prelude.{codes, string_bytes}
 use Rattle.std.specs.Borrow.{Bor}
-use Rattle.std.specs.Option.{option_map}
 use Rattle.macs_commands.specs.Talks.{Note, Asked, Put}
+use Rattle.macs_control.specs.Calls.{with_calls}
 use Rattle.macs_control.specs.Seconds.{LooksAtClock}
 use Rattle.macs_control.specs.declared.metrics_file.MetricsFile.{MetricsFile}
 use Rattle.macs_control.specs.declared.metrics_file.MetricsPlace.{MetricsPlace}
@@ -15,10 +15,6 @@ pub data FileCall : Type 0 where
   Removes : (path : List ℕ) → (done : Bool) → FileCall
   Makes : (path : List ℕ) → (text : List ℕ) → (done : Bool) → FileCall
   Renames : (from : List ℕ) → (to : List ℕ) → (done : Bool) → FileCall
-
--- the known calls, if they are known, and these
-abbrev pub with_calls : Option (List FileCall) → List FileCall → Option (List FileCall)
-with_calls known more = option_map (λ before. before ++ more) known
 
 -- The name of the new file is freed, the file is made with the text, and is renamed over the other one. A call that
 -- fails is the last one

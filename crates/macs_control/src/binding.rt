@@ -3,7 +3,8 @@
 
 ghost use Rattle.std.specs.Prelude.{◌≡◌, IfNone, OnSome};
 ghost use Rattle.macs_control.specs.Binding.{Clears, IsBound, IsNotBound, IsNotNamed};
-ghost use Rattle.macs_control.specs.Binding.{named_calls, with_calls};
+ghost use Rattle.macs_control.specs.Binding.{named_calls};
+ghost use Rattle.macs_control.specs.Calls.{with_calls};
 
 use std::io::ErrorKind;
 use std::net::Net;
@@ -33,7 +34,8 @@ pub enum Reach {
 pub trait LocalSockets {
     ghost use Rattle.std.specs.Prelude.{◌≡◌, [], ◌∷◌, List, Option, None, is_some};
     ghost use Rattle.macs_control.specs.Binding.{Binds, Listens, Makes, Reaches, Removes, SetsMode};
-    ghost use Rattle.macs_control.specs.Binding.{SocketCall, with_calls};
+    ghost use Rattle.macs_control.specs.Binding.{SocketCall};
+    ghost use Rattle.macs_control.specs.Calls.{with_calls};
 
     /// The calls so far, in order, and the result of each, if known.
     ghost asked: { Self → Option (List SocketCall) } = { λ _. None };

@@ -1,7 +1,7 @@
 //! A connection that receives lines and sends answers.
 
-ghost use Rattle.std.specs.Prelude.{◌≤◌, length, Option, None};
-ghost use Rattle.macs_control.specs.Links.{GivesOctets, IsAtMost, Link, TakesOctets};
+ghost use Rattle.std.specs.Prelude.{◌≡◌, ◌<◌, ◌≤◌, length, true, false, Bool, Option, None};
+ghost use Rattle.macs_control.specs.Links.{FindsMore, GivesOctets, IsAtMost, Link, TakesOctets};
 
 use std::io::{ErrorKind, Read, Write};
 use std::os::unix::net::UnixStream;
@@ -27,10 +27,16 @@ pub trait Connection: Drop {
     /// What arrived and was sent, if known.
     ghost link: { Self → Option Link } = { λ _. None };
 
+    /// Whether it is known that each look with room for an octet finds one or the end: none fails,
+    /// and none comes too early.
+    ghost steady: { Self → Bool } = { λ _. false };
+
     /// Takes octets that arrived: as many as fit.
     fn take_into(&mut self, into: &mut [u8]) -> Taken
         ensures bound { IsAtMost result (length into.new) }
-        ensures taken { TakesOctets (link self.old) (link self.new) into.new result };
+        ensures taken { TakesOctets (link self.old) (link self.new) into.new result }
+        ensures steady { steady self.new ≡ steady self.old }
+        ensures finds { steady self.old ≡ true → 0 < length into.new → FindsMore result };
 
     /// Sends octets, and returns whether all of them were taken at once.
     fn try_send(&mut self, octets: &[u8]) -> bool

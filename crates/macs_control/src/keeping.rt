@@ -9,7 +9,7 @@ mod kept_disk;
 mod taking;
 mod waiting;
 
-pub use connecting::connect;
+pub use connecting::{Keepers, SystemKeepers};
 pub use cut::Cut;
 pub use keeper::{KeepEnd, keep_for};
 pub use kept_disk::KeptDisk;

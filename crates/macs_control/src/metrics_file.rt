@@ -14,7 +14,7 @@ use std::rt::{Clock, Files};
 pub trait FileCalls {
     ghost use Rattle.std.specs.Prelude.{◌≡◌, [], ◌∷◌, List, Option, None};
     ghost use Rattle.macs_control.specs.MetricsFiles.{FileCall, Makes, Removes, Renames};
-    ghost use Rattle.macs_control.specs.MetricsFiles.{with_calls};
+    ghost use Rattle.macs_control.specs.Calls.{with_calls};
 
     /// The calls so far, in order, and whether each succeeded, if known.
     ghost asked: { Self → Option (List FileCall) } = { λ _. None };

@@ -3,7 +3,7 @@
 ghost use Rattle.std.specs.Prelude.{◌≡◌, pos};
 ghost use Rattle.macs_control.specs.Watching.{asks};
 
-use libc::net::{POLLIN, poll};
+use libc::net::{POLLERR, POLLHUP, POLLIN, poll};
 use libc::types::pollfd;
 use std::os::fd::RawFd;
 
@@ -20,6 +20,16 @@ fn readable(socket: RawFd) -> pollfd
         revents: 0,
     }
 }
+
+/// Whether the other side of a socket has gone: the system then reports it as readable for good
+/// (POSIX.1-2017, `poll`).
+fn has_gone(answer: &pollfd) -> bool {
+    answer.revents & (POLLHUP | POLLERR) != 0
+}
+
+/// The longest sleep while a keeper has gone, in milliseconds: a device call that waits for its
+/// answer fails after it.
+const WITHOUT_KEEPER: u16 = 1_000;
 
 /// The longest sleep in milliseconds, in the system's type.
 fn timeout(milliseconds: u16) -> i32
@@ -44,7 +54,7 @@ pub struct Sockets {
 }
 
 impl Sockets {
-    ghost use Rattle.std.specs.Prelude.{◌≡◌, ◌∷◌, []};
+    ghost use Rattle.std.specs.Prelude.{◌≡◌, ◌∷◌, [], negsuc};
     ghost use Rattle.macs_control.specs.Watching.{asks};
 
     /// What the system is asked, for each of them.
@@ -59,15 +69,38 @@ impl Sockets {
         ]
     }
 
+    /// What the system is asked, for the keeper alone.
+    fn keeper_asked(&self) -> [pollfd; 1]
+        ensures { result ≡ asks self.now.keeper ∷ [] }
+    {
+        [readable(self.keeper)]
+    }
+
     /// Sleeps until the keeper has sent something, for at most a millisecond.
     pub fn pause(&self) {
-        wait_for(self.keeper, 1);
+        let _ = poll(&mut self.keeper_asked(), timeout(1));
+    }
+
+    /// The same without a keeper.
+    fn without_keeper(self) -> Sockets
+        ensures { result ≡ record self { keeper = negsuc 0 } }
+    {
+        Sockets {
+            keeper: NO_SOCKET,
+            ..self
+        }
     }
 
     /// Sleeps until one of them is readable, for at most this many milliseconds. What has already
-    /// arrived ends the sleep at once (POSIX.1-2017, `poll`). If the call fails there is no sleep.
+    /// arrived ends the sleep at once (POSIX.1-2017, `poll`). A keeper that has gone ends no sleep,
+    /// but limits it to a second. If the call fails there is no sleep.
     pub fn sleep(&self, milliseconds: u16) {
-        let _ = poll(&mut self.asked(), timeout(milliseconds));
+        let mut asked = self.asked();
+        let _ = poll(&mut asked, timeout(milliseconds));
+        if has_gone(&asked[2]) {
+            let limit = milliseconds.min(WITHOUT_KEEPER);
+            let _ = poll(&mut self.without_keeper().asked(), timeout(limit));
+        }
     }
 }
 
@@ -88,7 +121,7 @@ fn is_any_found(asked: &[pollfd]) -> bool {
 }
 
 impl Watch {
-    ghost use Rattle.std.specs.Prelude.{◌≡◌, ◌∷◌, [], map};
+    ghost use Rattle.std.specs.Prelude.{◌≡◌, [], map, negsuc};
     ghost use Rattle.macs_control.specs.Watching.{asks, watched};
 
     /// What the system is asked, for each of these sockets.
@@ -107,11 +140,25 @@ impl Watch {
         ]
     }
 
+    /// The same without a keeper.
+    fn without_keeper(self) -> Watch
+        ensures { result ≡ record self { sockets = record self.sockets { keeper = negsuc 0 } } }
+    {
+        Watch {
+            sockets: self.sockets.without_keeper(),
+            ..self
+        }
+    }
+
     /// Sleeps until one of them is readable, as `Sockets::sleep` does. Returns whether the listening
     /// socket or one of a client is, or the call failed.
     pub fn sleep(&self, milliseconds: u16) -> bool {
         let mut asked = self.asked();
-        let found = poll(&mut asked, timeout(milliseconds));
+        let mut found = poll(&mut asked, timeout(milliseconds));
+        if has_gone(&asked[2]) {
+            asked = self.without_keeper().asked();
+            found = poll(&mut asked, timeout(milliseconds.min(WITHOUT_KEEPER)));
+        }
         found < 0 || is_any_found(&asked[3..])
     }
 }

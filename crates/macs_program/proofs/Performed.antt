@@ -17,6 +17,8 @@ use Rattle.macs_program.specs.Inputs.{InputRead}
 use Rattle.macs_offline.specs.Inspecting.{InspectFails, Inspects, IsOfInspecting, PrintsFrames}
 use Rattle.macs_program.specs.Judging.{PrintsVerdicts}
 use Rattle.macs_program.specs.Keeping.{FailsToKeep, KeepsIn, outcome_of}
+use Rattle.macs_program.specs.KeptRelays.{ComesToBy, RelayFailsBy}
+use Rattle.macs_program.specs.Relaying.{RelayedAs, course_of}
 use Rattle.macs_offline.specs.Keys.{GivesKey, IsOfKey}
 use Rattle.macs_offline.specs.Plans.{PlanFails, PrintsPlan}
 use Rattle.macs_program.specs.Run.{Does, FailsAs, Performs, Prints, WrongValues}
@@ -355,23 +357,20 @@ module _ {F W : Type 0} (T : Type 0) (state_of : F → FileState) (left_in : F �
       (sym is) performs
 
   pub relays : (disk : Bor (List ℕ)) (controlled common : WireEnds) (running : Running)
-      → IfOk result
-      (Does T state_of left_in (OnFrames (Relay disk controlled common running)) input (contents old) (contents new))
-      → IfErr result (λ failure. failure_status failure ≡ ends.Usage
-      → WrongValues (OnFrames (Relay disk controlled common running)) × (new ≡ old)) → Silent
-      → IfErr result (FailsAs T state_of left_in (OnFrames (Relay disk controlled common running)) input (contents old)
-      (contents new))
-      → Broken
+      → RelayedAs (ComesToBy state_of running.keeper (course_of T disk.now running))
+      (RelayFailsBy state_of running.keeper (course_of T disk.now running)) contents failed controlled common
+      old result new
       → Performs T state_of left_in contents failed (OnFrames (Relay disk controlled common running)) input
       old result new
-  relays disk controlled common running done usage silent fails broken = record {
-    does = done;
-    status = IfOk-weaker result _ _ (λ status all. let (summary, comes, spelled, printed, is) = all in inl is) done;
-    usage = usage;
-    disk = IfErr-weaker result _ _ (λ failure same disk. ((λ is. absurd cc), same disk)) (kept silent);
-    before = before silent;
-    fails = fails;
-    broken = broken;
+  relays disk controlled common running relayed = record {
+    does = relayed.printed;
+    status = IfOk-weaker result _ _ (λ status all. let (summary, comes, spelled, printed, is) = all in inl is)
+        relayed.printed;
+    usage = relayed.usage;
+    disk = IfErr-weaker result _ _ (λ failure same disk. ((λ is. absurd cc), same disk)) (kept relayed.silent);
+    before = before relayed.silent;
+    fails = relayed.ended;
+    broken = relayed.broken;
   }
 
   -- how an answer ends that was printed

@@ -27,12 +27,12 @@ use Rattle.macs_cli.specs.Addresses.{AddressFaultHolds, SpellsBoth, address_faul
 use Rattle.macs_offline.specs.Openings.{OpeningFails}
 use Rattle.macs_cli.specs.Failing.{failure_of_journal, failure_of_refill, failure_status}
 use Rattle.macs_program.specs.Relaying.{ComesTo, Course, Ends, IsAfterAddresses, IsOfRelay, IsRun, IsUnbound}
-use Rattle.macs_program.specs.Relaying.{RelayEndsIn, Reports, RestsIf, course_of, course_with, is_attended, new_wire}
-use Rattle.macs_program.specs.Relaying.{rest_result, summary_after}
+use Rattle.macs_program.specs.Relaying.{RelayFailsIn, RelayedAs, Reports, RestsIf, course_of, course_with, is_attended}
+use Rattle.macs_program.specs.Relaying.{new_wire, rest_result, summary_after}
 use Rattle.macs_program.specs.Summing.{relay_line}
 use Rattle.macs_program.specs.Tasks.{DoesRelay, IsRunIn, IsRunOn}
 use Rattle.macs_control.specs.KeptDisks.{KeptDiskValue, kept_disk}
-use Rattle.macs_program.specs.KeptRelays.{ComesToKept, HasNoWires, KeepingFails, RelayEndsKept}
+use Rattle.macs_program.specs.KeptRelays.{ComesToKept, HasNoWires, RelayFailsKept}
 use Rattle.macs_cli.specs.declared.addresses.AddressFault.{AddressFault}
 use Rattle.macs_cli.specs.declared.failure.DiskFault.{DiskFault}
 use Rattle.macs_cli.specs.declared.failure.DiskFault.TheVariants as disk
@@ -271,24 +271,6 @@ as-wanted T disk_of contents has_failed disk running is old before result new af
 
 -- ---- what `relay` comes to
 
--- where there are wires, an endpoint that is opened, and a relay that ends so or so
-pub record RelayedAs {W : Type 0} (Comes : RelaySummary → Type 0) (HasNone Fails Ends : Failure → Type 0)
-    (contents : W → Option (List ℕ)) (has_failed : W → Bool) (controlled common : WireEnds) (before : W)
-    (result : Result Status Failure) (after : W) : Type 0 where
-  pub printed : IfOk result
-      (λ status. (summary : RelaySummary) × Comes summary × SpellsBoth controlled common
-      × Appends (contents before) (contents after) (relay_line summary) × (status ≡ ends.Done))
-  pub address : (fault : AddressFault)
-      → (result ≡ Err (Address fault)) ↔ IsFirst (AddressFaultHolds controlled common) address_faults fault
-  pub usage : IfErr result (λ failure. failure_status failure ≡ ends.Usage
-      → ((fault : AddressFault) × AddressFaultHolds controlled common fault) × (after ≡ before))
-  pub ended : IfErr result (λ failure. ((fault : AddressFault) × (failure ≡ Address fault)
-      × IsFirst (AddressFaultHolds controlled common) address_faults fault) ⊎ HasNone failure
-      ⊎ Fails failure ⊎ Ends failure)
-  pub names : IfErr result IsOfRelay
-  pub silent : IfErr result (λ failure. failure ≢ failures.Output → after ≡ before)
-  pub broken : IfErr result (λ failure. failure ≡ failures.Output → has_failed after ≡ true)
-
 disk-behind : {F : Type 0} (file : F → FileState) (failure : Failure) → OpeningFails file failure
     → IsAfterAddresses failure
 disk-behind file failure fails = elim (of-opening file failure fails) [
@@ -296,18 +278,18 @@ disk-behind file failure fails = elim (of-opening file failure fails) [
   | inr fault ↦ subst IsAfterAddresses (sym fault.1) tt
 ]
 
-module _ {W T : Type 0} (Comes : RelaySummary → Type 0) (HasNone Fails Ends : Failure → Type 0)
+module _ {W T : Type 0} (Comes : RelaySummary → Type 0) (Fails : Failure → Type 0)
     (contents : W → Option (List ℕ)) (has_failed : W → Bool) (controlled common : WireEnds)
     (before : W) (addresses : Result T AddressFault)
     (exactly : (fault : AddressFault)
     → (addresses ≡ Err fault) ↔ IsFirst (AddressFaultHolds controlled common) address_faults fault) where
   abbrev Is : Result Status Failure → W → Type 0
-  Is result after = RelayedAs Comes HasNone Fails Ends contents has_failed controlled common before result after
+  Is result after = RelayedAs Comes Fails contents has_failed controlled common before result after
 
   -- an address is refused
   pub refused-as : (failure : Failure) (cause : AddressFault) (result : Result Status Failure)
       → addresses ≡ Err cause → result ≡ Err failure → failure ≡ Address cause
-      → RelayedAs Comes HasNone Fails Ends contents has_failed controlled common before result before
+      → RelayedAs Comes Fails contents has_failed controlled common before result before
   refused-as failure cause result was is same =
       let first = (exactly cause).0 was in
       subst (λ (r : Result Status Failure). Is r before) (sym is) (record {
@@ -323,9 +305,9 @@ module _ {W T : Type 0} (Comes : RelaySummary → Type 0) (HasNone Fails Ends : 
 
   -- what fails comes after the addresses
   pub fails-as : (value : T) (after : W) (failure : Failure) (result : Result Status Failure) → addresses ≡ Ok value
-      → result ≡ Err failure → IsAfterAddresses failure → HasNone failure ⊎ Fails failure ⊎ Ends failure
+      → result ≡ Err failure → IsAfterAddresses failure → Fails failure
       → (failure ≢ failures.Output → after ≡ before) → (failure ≡ failures.Output → has_failed after ≡ true)
-      → RelayedAs Comes HasNone Fails Ends contents has_failed controlled common before result after
+      → RelayedAs Comes Fails contents has_failed controlled common before result after
   fails-as value after failure result was is behind which silent broken =
       subst (λ (r : Result Status Failure). Is r after) (sym is) (record {
         printed = tt;
@@ -342,7 +324,7 @@ module _ {W T : Type 0} (Comes : RelaySummary → Type 0) (HasNone Fails Ends : 
   pub comes-as : (value : T) (after : W) (status : Status) → addresses ≡ Ok value → SpellsBoth controlled common
       → ((summary : RelaySummary) × Comes summary × Appends (contents before) (contents after) (relay_line summary)
       × (status ≡ ends.Done))
-      → RelayedAs Comes HasNone Fails Ends contents has_failed controlled common before (Ok status) after
+      → RelayedAs Comes Fails contents has_failed controlled common before (Ok status) after
   comes-as value after status was spelled (summary, comes, printed, is) = record {
     printed = (summary, comes, spelled, printed, is);
     address = no-address {U = Status} (AddressFaultHolds controlled common) address_faults addresses value (Ok status)
@@ -359,8 +341,7 @@ module _ {W T : Type 0} (Comes : RelaySummary → Type 0) (HasNone Fails Ends : 
 abbrev pub RelayedIn : {F W : Type 0} → (F → FileState) → (W → Option (List ℕ)) → (W → Bool) → WireEnds → WireEnds
     → Course → W → Result Status Failure → W → Type 0
 RelayedIn file contents has_failed controlled common course before result after =
-    RelayedAs (ComesTo file course) (IsUnbound file) (OpeningFails file) (RelayEndsIn file course) contents has_failed
-    controlled common before result after
+    RelayedAs (ComesTo file course) (RelayFailsIn file course) contents has_failed controlled common before result after
 
 module _ {F W T : Type 0} (file : F → FileState) (contents : W → Option (List ℕ)) (has_failed : W → Bool)
     (controlled common : WireEnds) (course : Course)
@@ -369,12 +350,12 @@ module _ {F W T : Type 0} (file : F → FileState) (contents : W → Option (Lis
     → (addresses ≡ Err fault) ↔ IsFirst (AddressFaultHolds controlled common) address_faults fault)
     (value : T) (was : addresses ≡ Ok value) where
   fails-in : (after : W) (failure : Failure) (result : Result Status Failure) → result ≡ Err failure
-      → IsAfterAddresses failure → IsUnbound file failure ⊎ OpeningFails file failure ⊎ RelayEndsIn file course failure
+      → IsAfterAddresses failure → RelayFailsIn file course failure
       → (failure ≢ failures.Output → after ≡ before) → (failure ≡ failures.Output → has_failed after ≡ true)
       → RelayedIn file contents has_failed controlled common course before result after
   fails-in after failure result =
-      fails-as (ComesTo file course) (IsUnbound file) (OpeningFails file) (RelayEndsIn file course) contents has_failed
-      controlled common before addresses exactly value after failure result was
+      fails-as (ComesTo file course) (RelayFailsIn file course) contents has_failed controlled common before
+      addresses exactly value after failure result was
 
   pub unbound-in : (failure : Failure) → IsUnbound file failure
       → RelayedIn file contents has_failed controlled common course before (Err failure) before
@@ -391,8 +372,8 @@ module _ {F W T : Type 0} (file : F → FileState) (contents : W → Option (Lis
       (λ output. absurd (disk-no-output none.failure (of-opening file none.failure none.fails) output))
   relayed-in after (Ok status) spelled (inr run) =
       let (summary, relays, printed, is) = run.does.printed in
-      comes-as (ComesTo file course) (IsUnbound file) (OpeningFails file) (RelayEndsIn file course) contents has_failed
-      controlled common before addresses exactly value after status was spelled (
+      comes-as (ComesTo file course) (RelayFailsIn file course) contents has_failed controlled common before
+      addresses exactly value after status was spelled (
         summary,
         record {
           old = run.old;
@@ -415,8 +396,7 @@ module _ {F W T : Type 0} (file : F → FileState) (contents : W → Option (Lis
 abbrev pub RelayedKept : {W : Type 0} → (W → Option (List ℕ)) → (W → Bool) → WireEnds → WireEnds → Course → W
     → Result Status Failure → W → Type 0
 RelayedKept contents has_failed controlled common course before result after =
-    RelayedAs (ComesToKept course) HasNoWires KeepingFails (RelayEndsKept course) contents has_failed controlled common
-    before result after
+    RelayedAs (ComesToKept course) (RelayFailsKept course) contents has_failed controlled common before result after
 
 of-journal-behind : (failure : Failure) (fault : JournalFault) → failure ≡ failure_of_journal fault
     → IsAfterAddresses failure
@@ -433,12 +413,12 @@ module _ {W T : Type 0} (contents : W → Option (List ℕ)) (has_failed : W →
     → (addresses ≡ Err fault) ↔ IsFirst (AddressFaultHolds controlled common) address_faults fault)
     (value : T) (was : addresses ≡ Ok value) where
   fails-kept : (after : W) (failure : Failure) (result : Result Status Failure) → result ≡ Err failure
-      → IsAfterAddresses failure → HasNoWires failure ⊎ KeepingFails failure ⊎ RelayEndsKept course failure
+      → IsAfterAddresses failure → RelayFailsKept course failure
       → (failure ≢ failures.Output → after ≡ before) → (failure ≡ failures.Output → has_failed after ≡ true)
       → RelayedKept contents has_failed controlled common course before result after
   fails-kept after failure result =
-      fails-as (ComesToKept course) HasNoWires KeepingFails (RelayEndsKept course) contents has_failed
-      controlled common before addresses exactly value after failure result was
+      fails-as (ComesToKept course) (RelayFailsKept course) contents has_failed controlled common before
+      addresses exactly value after failure result was
 
   pub no-wires-kept : (fault failure : Failure) (result : Result Status Failure) → result ≡ Err failure
       → failure ≡ fault → HasNoWires fault
@@ -480,8 +460,8 @@ module _ {W T : Type 0} (contents : W → Option (List ℕ)) (has_failed : W →
       (λ other. none.silent) (λ output. absurd (of-journal-no-output failure none.fault refl output))
   relayed-kept disk after (Ok status) spelled (inr run) =
       let (summary, relays, printed, is) = run.does.printed in
-      comes-as (ComesToKept course) HasNoWires KeepingFails (RelayEndsKept course) contents has_failed
-      controlled common before addresses exactly value after status was spelled (
+      comes-as (ComesToKept course) (RelayFailsKept course) contents has_failed controlled common before
+      addresses exactly value after status was spelled (
         summary,
         record {
           old = run.old;

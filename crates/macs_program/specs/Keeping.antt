@@ -1,11 +1,11 @@
 -- What a keeper does for its one client, at which socket, and what comes of it on a disk in a file.
 use Rattle.std.specs.Prelude.{◌≡◌, ◌⊎◌, ◌++◌, ℕ, Bool, true, false, List, [], ◌∷◌, Option, Some, None, Result, Ok, Err}
-use Rattle.std.specs.Option.{option_map}
 use Rattle.macs_disk.specs.Disk.{Disk}
 use Rattle.macs_disk.specs.FileDisks.{disk_in_file}
 use Rattle.macs_disk.specs.Files.{FileState}
 use Rattle.macs_disk.specs.declared.file.FileDisk.{FileDisk}
 use Rattle.macs_disk.specs.declared.file_fault.FileFault.{FileFault}
+use Rattle.macs_control.specs.Calls.{with_calls}
 use Rattle.macs_control.specs.Keepers.{Keeps}
 use Rattle.macs_control.specs.Links.{Link}
 use Rattle.macs_control.specs.declared.keeping.keeper.KeepEnd.{KeepEnd}
@@ -27,10 +27,6 @@ pub data EntranceCall : Type 0 where
   Notifies : EntranceCall
   LetsIn : (client : Option (Option Link)) → EntranceCall
   Closes : (path : List ℕ) → EntranceCall
-
--- the known calls, if they are known, and these
-abbrev pub with_calls : Option (List EntranceCall) → List EntranceCall → Option (List EntranceCall)
-with_calls known more = option_map (λ before. before ++ more) known
 
 -- the calls that let one client in: once it has come, nobody else can
 abbrev pub one_let_in : List ℕ → Option Link → List EntranceCall

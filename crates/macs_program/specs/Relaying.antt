@@ -1,6 +1,6 @@
 -- The result of a relay of the program, and how it ends.
-use Rattle.std.specs.Prelude.{◌≡◌, ◌⊎◌, ◌-◌, ◌^◌, ◌||◌, ⊤, ℕ, Bool, true, false, List, [], Option, None, Some, is_some}
-use Rattle.std.specs.Prelude.{IfErr, IfOk, Result, Ok, Err}
+use Rattle.std.specs.Prelude.{◌≡◌, ◌≢◌, ◌⊎◌, ◌↔◌, ◌-◌, ◌^◌, ◌||◌, ⊤, ℕ, Bool, true, false, List, [], Option, None, Some}
+use Rattle.std.specs.Prelude.{is_some, IfErr, IfOk, Result, Ok, Err}
 use Rattle.std.specs.Io.KnownBytes.{Appends}
 use Rattle.macs_disk.specs.Disk.{Disk}
 use Rattle.macs_disk.specs.FileDisks.{disk_in_file}
@@ -21,13 +21,17 @@ use Rattle.macs_endpoint.specs.Value.{EndpointValue}
 use Rattle.macs_endpoint.specs.declared.fault.RefillFault.{RefillFault}
 use Rattle.macs_endpoint.specs.declared.fault.RestFault.{RestFault}
 use Rattle.macs_endpoint.specs.declared.fault.RestFault.TheVariants as rest
+use Rattle.macs_fields.specs.First.{IsFirst}
 use Rattle.macs_journal.specs.declared.fault.JournalFault.TheVariants as journal
+use Rattle.macs_cli.specs.Addresses.{AddressFaultHolds, SpellsBoth, address_faults}
+use Rattle.macs_cli.specs.declared.addresses.AddressFault.{AddressFault}
+use Rattle.macs_cli.specs.declared.words.action.WireEnds.{WireEnds}
 use Rattle.macs_cli.specs.declared.words.pace.Milliseconds.{Milliseconds}
 use Rattle.macs_cli.specs.declared.words.pace.Pace.{Pace}
 use Rattle.macs_cli.specs.declared.words.pace.Running.{Running}
 use Rattle.macs_cli.specs.declared.words.pace.Pace.TheVariants.{Sleepless, Waiting}
-use Rattle.macs_offline.specs.Openings.{IsEndpointIn}
-use Rattle.macs_cli.specs.Failing.{failure_of_journal, failure_of_refill}
+use Rattle.macs_offline.specs.Openings.{IsEndpointIn, OpeningFails}
+use Rattle.macs_cli.specs.Failing.{failure_of_journal, failure_of_refill, failure_status}
 use Rattle.macs_offline.specs.Trying.{LookFails, TriesIn}
 use Rattle.macs_cli.specs.declared.failure.Failure.{Failure}
 use Rattle.macs_cli.specs.declared.failure.Failure.TheVariants as failures
@@ -234,3 +238,28 @@ pub record RelayEndsIn {F : Type 0} (file : F → FileState) (course : Course) (
   pub new : EndpointValue (FileDisk F)
   pub endpoint : IsEndpointIn file old
   pub ends : RelayEnds (disk_in_file file) course old failure new
+
+-- how it fails after the addresses: of its wires, as no endpoint is opened, or as it ends
+abbrev pub RelayFailsIn : {F : Type 0} → (F → FileState) → Course → Failure → Type 0
+RelayFailsIn file course failure =
+    IsUnbound file failure ⊎ OpeningFails file failure ⊎ RelayEndsIn file course failure
+
+-- ---- what `relay` comes to
+
+-- Words that name two wires are carried out. Either this is `Comes` of a summary, which is printed; or an address is
+-- refused, or this is `Fails` of a later failure
+pub record RelayedAs {W : Type 0} (Comes : RelaySummary → Type 0) (Fails : Failure → Type 0)
+    (contents : W → Option (List ℕ)) (has_failed : W → Bool) (controlled common : WireEnds) (before : W)
+    (result : Result Status Failure) (after : W) : Type 0 where
+  pub printed : IfOk result
+      (λ status. (summary : RelaySummary) × Comes summary × SpellsBoth controlled common
+      × Appends (contents before) (contents after) (relay_line summary) × (status ≡ ends.Done))
+  pub address : (fault : AddressFault)
+      → (result ≡ Err (failures.Address fault)) ↔ IsFirst (AddressFaultHolds controlled common) address_faults fault
+  pub usage : IfErr result (λ failure. failure_status failure ≡ ends.Usage
+      → ((fault : AddressFault) × AddressFaultHolds controlled common fault) × (after ≡ before))
+  pub ended : IfErr result (λ failure. ((fault : AddressFault) × (failure ≡ failures.Address fault)
+      × IsFirst (AddressFaultHolds controlled common) address_faults fault) ⊎ Fails failure)
+  pub names : IfErr result IsOfRelay
+  pub silent : IfErr result (λ failure. failure ≢ failures.Output → after ≡ before)
+  pub broken : IfErr result (λ failure. failure ≡ failures.Output → has_failed after ≡ true)

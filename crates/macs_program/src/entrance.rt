@@ -13,8 +13,8 @@ use std::rt::{Env, Files};
 /// known about a socket of the operating system, nor about who connects to it.
 pub trait Entrance {
     ghost use Rattle.std.specs.Prelude.{◌≡◌, [], ◌∷◌, List, Option, None, option_map};
+    ghost use Rattle.macs_control.specs.Calls.{with_calls};
     ghost use Rattle.macs_program.specs.Keeping.{Binds, Closes, EntranceCall, LetsIn, Notifies};
-    ghost use Rattle.macs_program.specs.Keeping.{with_calls};
 
     /// The connection of a client.
     type Client: Waits;

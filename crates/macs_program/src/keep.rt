@@ -1,8 +1,9 @@
 //! `keep`: a disk file, kept for one client that asks for device calls.
 
 ghost use Rattle.std.specs.Prelude.{◌≡◌, ◌≢◌, ◌⊎◌, IfErr, IfNone, IfOk, IfSome};
+ghost use Rattle.macs_control.specs.Calls.{with_calls};
 ghost use Rattle.macs_program.specs.Keeping.{FailsToKeep, KeepsFor, KeepsIn, LetsNobodyIn};
-ghost use Rattle.macs_program.specs.Keeping.{one_let_in, outcome_of, with_calls};
+ghost use Rattle.macs_program.specs.Keeping.{one_let_in, outcome_of};
 
 use crate::entrance::{Entrance, SystemEntrance};
 use macs_cli::{Failure, Status};

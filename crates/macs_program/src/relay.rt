@@ -1,23 +1,14 @@
 //! `relay`: frames between two wires through an endpoint.
 
-ghost use Rattle.std.specs.Prelude.{◌≡◌, ◌≢◌, ◌⊎◌, ◌↔◌, Err, [], None, true};
-ghost use Rattle.std.specs.Prelude.{IfErr, IfOk};
-ghost use Rattle.std.specs.Io.KnownBytes.{Appends};
+ghost use Rattle.std.specs.Prelude.{◌≡◌, ◌⊎◌, [], None};
 ghost use Rattle.macs_control.specs.Serving.{ServesClients};
 ghost use Rattle.macs_control.specs.Unanswered.{entries_of};
 ghost use Rattle.macs_edge.specs.Relaying.{empty_lane, relay_of};
 ghost use Rattle.macs_edge.specs.Wires.{WireState};
-ghost use Rattle.macs_edge.specs.declared.relaying.RelaySummary.{RelaySummary};
-ghost use Rattle.macs_fields.specs.First.{IsFirst};
-ghost use Rattle.macs_cli.specs.Addresses.{AddressFaultHolds, SpellsBoth, address_faults};
-ghost use Rattle.macs_cli.specs.Failing.{failure_status};
-ghost use Rattle.macs_offline.specs.Openings.{OpeningFails};
 ghost use Rattle.macs_offline.specs.Trying.{LookFails, TriesIn};
-ghost use Rattle.macs_cli.specs.declared.addresses.AddressFault.{AddressFault};
 ghost use Rattle.macs_program.specs.KeptRelays.{ComesToBy, RelayFailsBy};
-ghost use Rattle.macs_program.specs.Relaying.{ComesTo, IsOfRelay, IsUnbound, RelayEndsIn};
+ghost use Rattle.macs_program.specs.Relaying.{ComesTo, IsUnbound, RelayFailsIn, RelayedAs};
 ghost use Rattle.macs_program.specs.Relaying.{RelaysAttended, course_of, is_attended, new_wire};
-ghost use Rattle.macs_program.specs.Summing.{relay_line};
 ghost use Rattle.macs_program.specs.Tasks.{DoesRelay};
 
 use crate::attendants::{desk_for, leave};
@@ -185,26 +176,9 @@ fn relay_in_file<'a, T: Files + Net + Clock + Env, W: Stream>(
 ) -> Result<Status, Failure>
 where
     T::File: CaptureFile,
-    ensures printed { IfOk result
-        (λ status. (summary : RelaySummary)
-        × ComesTo T.File.file (course_of T disk.now running.entry) summary
-        × SpellsBoth controlled.entry common.entry
-        × Appends (W.contents out.old) (W.contents out.new) (relay_line summary)
-        × (status ≡ Status.Done)) }
-    ensures address { (fault : AddressFault) → (result ≡ Err (Failure.Address fault))
-        ↔ IsFirst (AddressFaultHolds controlled.entry common.entry) address_faults fault }
-    ensures usage { IfErr result (λ failure. failure_status failure ≡ Status.Usage
-        → ((fault : AddressFault) × AddressFaultHolds controlled.entry common.entry fault)
-        × (out.new ≡ out.old)) }
-    ensures ended { IfErr result
-        (λ failure. ((fault : AddressFault) × (failure ≡ Failure.Address fault)
-        × IsFirst (AddressFaultHolds controlled.entry common.entry) address_faults fault)
-        ⊎ IsUnbound T.File.file failure
-        ⊎ OpeningFails T.File.file failure
-        ⊎ RelayEndsIn T.File.file (course_of T disk.now running.entry) failure) }
-    ensures names { IfErr result IsOfRelay }
-    ensures silent { IfErr result (λ failure. failure ≢ Failure.Output → out.new ≡ out.old) }
-    ensures broken { IfErr result (λ failure. failure ≡ Failure.Output → W.failed out.new ≡ true) }
+    ensures { RelayedAs (ComesTo T.File.file (course_of T disk.now running.entry))
+        (RelayFailsIn T.File.file (course_of T disk.now running.entry)) W.contents W.failed
+        controlled.entry common.entry out.old result out.new }
 {
     let addresses = addresses_of(controlled, common)?;
     match bind_wires(rt, alloc, addresses, running.buffer) {
@@ -236,25 +210,10 @@ pub fn relay<'a, T: Files + Net + Clock + Env, W: Stream>(
 ) -> Result<Status, Failure>
 where
     T::File: CaptureFile,
-    ensures printed { IfOk result
-        (λ status. (summary : RelaySummary)
-        × ComesToBy T.File.file running.entry.keeper (course_of T disk.now running.entry) summary
-        × SpellsBoth controlled.entry common.entry
-        × Appends (W.contents out.old) (W.contents out.new) (relay_line summary)
-        × (status ≡ Status.Done)) }
-    ensures address { (fault : AddressFault) → (result ≡ Err (Failure.Address fault))
-        ↔ IsFirst (AddressFaultHolds controlled.entry common.entry) address_faults fault }
-    ensures usage { IfErr result (λ failure. failure_status failure ≡ Status.Usage
-        → ((fault : AddressFault) × AddressFaultHolds controlled.entry common.entry fault)
-        × (out.new ≡ out.old)) }
-    ensures ended { IfErr result
-        (λ failure. ((fault : AddressFault) × (failure ≡ Failure.Address fault)
-        × IsFirst (AddressFaultHolds controlled.entry common.entry) address_faults fault)
-        ⊎ RelayFailsBy T.File.file running.entry.keeper (course_of T disk.now running.entry)
-        failure) }
-    ensures names { IfErr result IsOfRelay }
-    ensures silent { IfErr result (λ failure. failure ≢ Failure.Output → out.new ≡ out.old) }
-    ensures broken { IfErr result (λ failure. failure ≡ Failure.Output → W.failed out.new ≡ true) }
+    ensures { RelayedAs
+        (ComesToBy T.File.file running.entry.keeper (course_of T disk.now running.entry))
+        (RelayFailsBy T.File.file running.entry.keeper (course_of T disk.now running.entry))
+        W.contents W.failed controlled.entry common.entry out.old result out.new }
 {
     match running.keeper {
         None => relay_in_file(rt, alloc, disk, controlled, common, running, out),

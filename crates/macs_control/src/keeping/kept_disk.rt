@@ -1,9 +1,9 @@
 //! A disk that a keeper keeps.
 
-ghost use Rattle.std.specs.Prelude.{◌≡◌, ◌≤◌, true, false, IfSome, IsErr};
+ghost use Rattle.std.specs.Prelude.{◌≡◌, ◌≤◌, true, false, IfSome, IfNone, IsErr};
 ghost use Rattle.macs_disk.specs.Disk.{IsDeviceCall};
-ghost use Rattle.macs_control.specs.KeptDisks.{EndsSo, IsOpened, KeptDiskValue, is_stopped};
-ghost use Rattle.macs_control.specs.KeptDisks.{kept_disk};
+ghost use Rattle.macs_control.specs.KeptDisks.{EndsSo, GreetsNot, IsOpened, KeptDiskValue};
+ghost use Rattle.macs_control.specs.KeptDisks.{is_stopped, kept_disk};
 
 use crate::keeping::courier::Courier;
 use crate::keeping::taking::take_whole;
@@ -44,7 +44,8 @@ impl<C: Waits> KeptDisk<C> {
     /// The disk of a keeper, which greets. `None` if the connection ends or fails, or if what
     /// arrives is not a greeting.
     pub fn open(keeper: C) -> Option<KeptDisk<C>>
-        ensures { IfSome result (IsOpened (C.link keeper)) }
+        ensures some { IfSome result (IsOpened (C.link keeper)) }
+        ensures none { IfNone result (GreetsNot (C.link keeper) (C.steady keeper)) }
     {
         let mut keeper = keeper;
         let Ok(octets) = take_whole::<C, GREETING>(&mut keeper) else {

@@ -1,8 +1,9 @@
 //! Messages of one length, taken from a connection.
 
-ghost use Rattle.std.specs.Prelude.{◌≡◌, ◌<◌, [], length, true, false, IfErr, IfOk, OnOk, Option};
-ghost use Rattle.macs_control.specs.Links.{Fills, Link};
-ghost use Rattle.macs_control.specs.Keepers.{IsCut, IsCutAfter, Takes};
+ghost use Rattle.std.specs.Prelude.{◌≡◌, ◌<◌, ◌≤◌, ◌+◌, [], length, true, false, IfErr, IfOk, OnOk};
+ghost use Rattle.std.specs.Prelude.{Option};
+ghost use Rattle.macs_control.specs.Links.{Fills, FindsMore, Link, count_of};
+ghost use Rattle.macs_control.specs.Keepers.{IsCut, IsCutAfter, Takes, TakesMore};
 
 use crate::connection::{Connection, Taken};
 use crate::keeping::cut::Cut;
@@ -15,7 +16,11 @@ pub(crate) fn take_part<C: Connection, const N: usize>(
     from: &mut C,
     held: &mut ArrayVec<u8, N>,
 ) -> Taken
-    ensures { Fills held.old.items (C.link from.old) result held.new.items (C.link from.new) }
+    ensures fills { Fills held.old.items (C.link from.old) result held.new.items
+        (C.link from.new) }
+    ensures grows { length held.old.items + count_of result ≤ length held.new.items }
+    ensures steady { C.steady from.new ≡ C.steady from.old }
+    ensures finds { C.steady from.old ≡ true → length held.old.items < N → FindsMore result }
 {
     let mut octets = [0; N];
     let part = &mut octets[..held.remaining_capacity()];
@@ -33,6 +38,9 @@ fn take_more<C: Waits, const N: usize>(from: &mut C, held: &mut ArrayVec<u8, N>)
         → OnOk result (Takes start held.new.items (C.link from.new)) }
     ensures cut { (start : Option Link) → Takes start held.old.items (C.link from.old)
         → IfErr result (λ cut. IsCutAfter held.old.items start cut (C.link from.new)) }
+    ensures steady { C.steady from.old ≡ true → length held.old.items < N
+        → TakesMore result (length held.old.items) (length held.new.items)
+        (C.steady from.new) }
 {
     match take_part(from, held) {
         Taken::Octets(_) => Ok(()),
@@ -64,6 +72,7 @@ pub(crate) fn take_whole<C: Waits, const N: usize>(from: &mut C) -> Result<Array
     ensures whole { IfOk result (λ octets. (length octets.items ≡ N)
         × Takes (C.link from.old) octets.items (C.link from.new)) }
     ensures cut { IfErr result (λ cut. IsCut N (C.link from.old) cut (C.link from.new)) }
+    ensures steady { C.steady from.old ≡ true → IfErr result (λ cut. cut ≡ Cut.Ended) }
 {
     let mut held = nothing_held();
     for _look in 0..u64::MAX {

@@ -24,5 +24,4 @@ returns-else-is_each g c = λ input.
 
 pub returns-in-Relay : goal.returns-in-Relay
 returns-in-Relay g c =
-    λ input. rw c.in-Relay.is (relays g.row.T.Denot _ _ _ _ input _ _ _ _ _ _ _ c.relay.ensures.printed
-    c.relay.ensures.usage c.relay.ensures.silent c.relay.ensures.ended c.relay.ensures.broken)
+    λ input. rw c.in-Relay.is (relays g.row.T.Denot _ _ _ _ input _ _ _ _ _ _ _ c.relay.ensures)
