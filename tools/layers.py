@@ -1,125 +1,118 @@
 #!/usr/bin/env python3
-"""Draws docs/layers.svg from crates.txt: the crates of the product and of the laws, each above those that it uses.
+"""Draws docs/layers.svg from crates.txt: the crates of the product and of the laws in six groups, each group above those that it uses.
 
     python3 tools/layers.py [docs/layers.svg]
 
-It takes Python alone. Drawn is what `macsecd` and `macs_theorem` need; crates of tests and those of the toolchain are left out. An arrow
-leads from a crate to one that it uses, and is left out where other arrows lead there by way of a third crate. Each crate is as low as those that
-it uses allow, or higher, just below the lowest that uses it. The order in each row is the best that a fixed search finds, so that the same
-crates.txt gives the same octets.
+It takes Python alone. Drawn is what the programs, the library for C and the theorem need; crates of tests and those of the toolchain are
+left out. An arrow leads from a group to one that it uses, and is left out where other arrows lead there by way of a third group. A crate
+that is in no group or in two, and groups that use each other in a circle, are an error. The same crates.txt gives the same octets.
 """
 
-import itertools
 import os
 import sys
 
 TOP = os.path.dirname(os.path.dirname(os.path.realpath(__file__)))
-ROOTS = ["macsecd", "macs_theorem"]
-# In pixels: a box, from row to row, between two boxes, what a line takes that passes a row, and the margin.
-WIDE, HIGH, ROW, GAP, PASS, MARGIN = 136, 34, 72, 24, 20, 20
-# From how many orders the search begins, and how often boxes are drawn towards what they are linked to.
-TURNS, PULLS = 6, 48
+ROOTS = ["macsecd", "macs_c", "macs_theorem"]
+# The crates of each group, without `macs_`.
+GROUPS = {
+    "program, and the library for C": "macsecd program offline cli c",
+    "edge": "control texts edge commands pcap",
+    "endpoint, and the laws": "endpoint headline theorem",
+    "channels": "txsc rxsc frame",
+    "disk": "store journal record disk",
+    "ciphers and configuration": "gcm planes ghash aes gf config fields",
+}
+# In pixels: a box, from row to row, between two boxes, and the margin.
+WIDE, HIGH, ROW, GAP, MARGIN = 330, 58, 96, 24, 12
+STYLE = """<style>
+.page { fill: #fff } .box { fill: #dce9f7; stroke: #1a5fb4 } .name { fill: #222; font-weight: bold } .crates { fill: #222; font-size: 13px }
+.arrow { stroke: #5e6a75; stroke-width: 1.5; fill: none } .head { fill: #5e6a75 }
+@media (prefers-color-scheme: dark) {
+.page { fill: #0d1117 } .box { fill: #1b2a3d; stroke: #6ea8e6 } .name, .crates { fill: #e6edf3 } .arrow { stroke: #9aa7b4 } .head { fill: #9aa7b4 }
+}
+</style>"""
 
 
-def reached(used, name):
-    return set().union(*({it} | reached(used, it) for it in used[name] if it in used))
+def reached(used, name, above=()):
+    """All that is used from here on, by name."""
+    if name in above:
+        sys.exit(f"they use each other: {', '.join(above)}")
+    return set(used[name]).union(*(reached(used, it, (*above, name)) for it in used[name]))
 
 
 def crates():
-    """What each crate that the roots need uses, but for what is reached through another one. The lowest comes first, as in crates.txt."""
+    """What each crate that the roots need uses of the repository."""
     with open(os.path.join(TOP, "crates.txt")) as file:
-        used = {name: words.split() for name, words in (line.split(":") for line in file if not line.startswith("#"))}
+        lines = [line.split(":") for line in file if not line.startswith("#")]
+    used = {name.split()[0]: words.split() for name, words in lines}
+    used = {name: [it for it in words if it in used] for name, words in used.items()}
     needed = set(ROOTS).union(*(reached(used, root) for root in ROOTS))
-    used = {name: [it for it in used[name] if it in used] for name in used if name in needed}
-    return {name: [it for it in all_of if not any(it in reached(used, other) for other in all_of)] for name, all_of in used.items()}
+    return {name: words for name, words in used.items() if name in needed}
 
 
-def in_rows(used):
-    """The rows from below, and the pieces of line between them. A line to a crate that is some rows below passes each row between by a point of
-    its own, (crate, row), which other lines to that crate share."""
-    height = {}
-    for name, all_of in used.items():
-        height[name] = 1 + max((height[it] for it in all_of), default=-1)
-    for name in reversed(used):
-        height[name] = min((height[it] - 1 for it in used if name in used[it]), default=height[name])
-    rows = [[name for name in used if height[name] == at] for at in range(max(height.values()) + 1)]
-    pieces = {}
-    for name, all_of in used.items():
-        for it in all_of:
-            points = [(it, at) for at in range(height[name] - 1, height[it], -1)]
-            for _, at in points:
-                rows[at] += [] if (it, at) in rows[at] else [(it, at)]
-            pieces.update(dict.fromkeys(itertools.pairwise([name, *points, it])))
-    return rows, list(pieces)
+def groups(names):
+    """The group of each crate."""
+    group = {}
+    for title, words in GROUPS.items():
+        for word in words.split():
+            name = word if word in ROOTS else f"macs_{word}"
+            if name in group or name not in names:
+                sys.exit(f"{name}: in two groups, or not needed")
+            group[name] = title
+    if missing := [name for name in names if name not in group]:
+        sys.exit(f"in no group: {', '.join(missing)}")
+    return group
 
 
-def cost(rows, pieces, at):
-    """How often the lines above and below a row cross, and then how far they go sideways."""
-    place = {it: i - (len(row) - 1) / 2 for row in rows[max(0, at - 1) : at + 2] for i, it in enumerate(row)}
-    total = 0
-    for row in rows[max(0, at - 1) : at + 1]:
-        ends = [(place[a], place[b]) for a, b in pieces if b in row and a in place]
-        total += 100 * sum((a - c) * (b - d) < 0 for (a, b), (c, d) in itertools.combinations(ends, 2))
-        total += sum(abs(a - b) for a, b in ends)
-    return total
+def arrows(used, group):
+    """The groups that each group uses, but for those that are reached by way of another one."""
+    links = {title: set() for title in GROUPS}
+    for name, words in used.items():
+        links[group[name]].update(group[it] for it in words if group[it] != group[name])
+    below = {title: reached(links, title) for title in GROUPS}
+    return {title: [it for it in GROUPS if it in links[title] and not any(it in below[other] for other in links[title])] for title in GROUPS}
 
 
-def settled(rows, pieces):
-    """Each row in its best order between its neighbours, up and down until nothing changes."""
-    before = None
-    while rows != before:
-        before = list(rows)
-        for at in [*range(len(rows)), *reversed(range(len(rows)))]:
-            of_order = lambda row: cost(rows[:at] + [row] + rows[at + 1 :], pieces, at)
-            rows[at] = min([rows[at], *map(list, itertools.permutations(rows[at]))], key=of_order)
-    return rows
+def height(links, title):
+    return 1 + max((height(links, it) for it in links[title]), default=-1)
 
 
-def centres(rows, pieces):
-    """How far from the left each crate and each point is: as near as it can be to what it is linked to."""
-    wide = lambda it: WIDE + GAP if isinstance(it, str) else PASS
-    from_first = lambda row: list(itertools.accumulate(((wide(a) + wide(b)) / 2 for a, b in itertools.pairwise(row)), initial=0))
-    x = {it: far for row in rows for it, far in zip(row, from_first(row))}
-    for _ in range(PULLS):
-        for row in rows:
-            far = from_first(row)
-            links = [[x[b] for a, b in pieces if a == it] + [x[a] for a, b in pieces if b == it] for it in row]
-            wish = [sum(of) / len(of) - far for of, far in zip(links, far)]
-            # The nearest places to the right of all wishes, those to the left, and their mean keep the order and the gaps.
-            right, left = list(itertools.accumulate(wish, max)), list(itertools.accumulate(wish[::-1], min))[::-1]
-            x.update({it: (a + b) / 2 + far for it, a, b, far in zip(row, left, right, far)})
-    least = min(x[it] - wide(it) / 2 for it in x) + GAP / 2 - MARGIN
-    return {it: round(x[it] - least) for it in x}
+def rows(links):
+    """The groups of each row, from above: each group is one row above the highest that it uses."""
+    heights = {title: height(links, title) for title in GROUPS}
+    return [[it for it in GROUPS if heights[it] == at] for at in range(max(heights.values()), -1, -1)]
 
 
-def drawn(rows, pieces):
-    x = centres(rows, pieces)
-    y = {it: MARGIN + ROW * i for i, row in enumerate(reversed(rows)) for it in row}
-    wide, high = max(x[it] + (WIDE // 2 if isinstance(it, str) else 0) for it in x) + MARGIN, ROW * (len(rows) - 1) + HIGH + 2 * MARGIN
+def drawn(links):
+    table = rows(links)
+    wide = max(len(row) for row in table) * (WIDE + GAP) - GAP + 2 * MARGIN
+    high = len(table) * ROW - (ROW - HIGH) + 2 * MARGIN
+    left = {it: (wide - len(row) * (WIDE + GAP) + GAP) // 2 + i * (WIDE + GAP) for row in table for i, it in enumerate(row)}
+    top = {it: MARGIN + at * ROW for at, row in enumerate(table) for it in row}
     out = [
-        f'<svg xmlns="http://www.w3.org/2000/svg" viewBox="0 0 {wide} {high}" font-family="sans-serif" font-size="14" fill="#222">',
-        "<title>The crates of the product and of the laws, each above those that it uses</title>",
+        f'<svg xmlns="http://www.w3.org/2000/svg" viewBox="0 0 {wide} {high}" width="{wide}" font-family="sans-serif" font-size="14">',
+        "<title>Six groups of crates, each above those that it uses</title>",
+        STYLE,
         '<marker id="end" viewBox="0 0 8 8" refX="8" refY="4" markerWidth="8" markerHeight="8" orient="auto">',
-        '<path d="M0 0 L8 4 L0 8 Z" fill="#5e6a75"/></marker>',
-        f'<rect width="{wide}" height="{high}" rx="8" fill="#fff"/>',
+        '<path class="head" d="M0 0 L8 4 L0 8 Z"/></marker>',
+        f'<rect class="page" width="{wide}" height="{high}" rx="8"/>',
     ]
-    for a, b in pieces:
-        end = 'marker-end="url(#end)"/>' if isinstance(b, str) else "/>"
-        on = "" if isinstance(b, str) else f" V{y[b] + HIGH}"
-        out.append(f'<path d="M{x[a]} {y[a] + HIGH} L{x[b]} {y[b]}{on}" fill="none" stroke="#5e6a75" stroke-width="1.5" {end}')
-    for name in (it for row in reversed(rows) for it in row if isinstance(it, str)):
-        fill = "#f7ecd0" if name == "macs_headline" else "#dce9f7"
-        out.append(f'<rect x="{x[name] - WIDE // 2}" y="{y[name]}" width="{WIDE}" height="{HIGH}" rx="5" fill="{fill}" stroke="#1a5fb4"/>')
-        out.append(f'<text x="{x[name]}" y="{y[name] + 22}" text-anchor="middle">{name}</text>')
+    for a, words in links.items():
+        for b in words:
+            ends = f"M{left[a] + WIDE // 2} {top[a] + HIGH} L{left[b] + WIDE // 2} {top[b]}"
+            out.append(f'<path class="arrow" d="{ends}" marker-end="url(#end)"/>')
+    for title, words in GROUPS.items():
+        middle = left[title] + WIDE // 2
+        out.append(f'<rect class="box" x="{left[title]}" y="{top[title]}" width="{WIDE}" height="{HIGH}" rx="5"/>')
+        out.append(f'<text class="name" x="{middle}" y="{top[title] + 24}" text-anchor="middle">{title}</text>')
+        out.append(f'<text class="crates" x="{middle}" y="{top[title] + 45}" text-anchor="middle">{", ".join(words.split())}</text>')
     return "\n".join([*out, "</svg>\n"])
 
 
 def main():
-    rows, pieces = in_rows(crates())
-    turned = [[row[i % len(row) :] + row[: i % len(row)] for row in rows] for i in range(TURNS)]
-    best = min((settled(it, pieces) for it in turned), key=lambda it: sum(cost(it, pieces, at) for at in range(len(it))))
+    used = crates()
     with open(sys.argv[1] if len(sys.argv) > 1 else os.path.join(TOP, "docs/layers.svg"), "w") as file:
-        file.write(drawn(best, pieces))
+        file.write(drawn(arrows(used, groups(used))))
 
 
 main()
