@@ -1,6 +1,6 @@
 //! Captures as files and through an endpoint, command files with each wrong value, memory that is
-//! refused, wires, the lines of a control socket and the desk that answers them, and a disk that a
-//! keeper keeps.
+//! refused, wires, the lines of a control socket and the desk that answers them, a disk that a
+//! keeper keeps, and one that answers later.
 
 mod capture_files;
 mod captures;
@@ -12,6 +12,7 @@ mod fault_wires;
 mod hostile_files;
 mod hostile_texts;
 mod keeping;
+mod late;
 mod links;
 mod memory;
 mod relaying;

@@ -11,6 +11,9 @@ use std::process::Abort;
 /// The SCI of most endpoints here.
 pub(super) const OWN: Sci = Sci([2, 0, 0, 0, 0, 1, 0, 1]);
 
+/// The SCI of the other endpoint.
+pub(super) const THERE: Sci = Sci([2, 0, 0, 0, 0, 2, 0, 1]);
+
 pub(super) fn number_of(rt: &impl Abort, association: u8) -> An {
     An::new(association).expect(rt, "association number")
 }
@@ -18,11 +21,16 @@ pub(super) fn number_of(rt: &impl Abort, association: u8) -> An {
 /// A disk in memory with the journal of a new endpoint, whose blocks have so many packet numbers.
 pub(super) fn formatted(rt: &impl Abort, alloc: Global, sci: Sci, block: u32) -> MemDisk {
     let identity = Identity::new(sci, block, block).expect(rt, "identity");
+    formatted_as(rt, alloc, &identity)
+}
+
+/// A disk in memory with the journal of a new endpoint of this identity.
+pub(super) fn formatted_as(rt: &impl Abort, alloc: Global, identity: &Identity) -> MemDisk {
     let mut disk = match MemDisk::new(alloc, 1_028) {
         Ok(disk) => disk,
         Err(_) => panic!(rt; "no disk"),
     };
-    assert!(rt; format(&mut disk, &identity).is_ok());
+    assert!(rt; format(&mut disk, identity).is_ok());
     disk
 }
 

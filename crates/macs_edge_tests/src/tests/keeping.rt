@@ -3,6 +3,7 @@
 
 mod client;
 mod keeper;
+mod waiting;
 
 use macs_control::keeping::Waits;
 use macs_control::{Connection, Taken};

@@ -18,7 +18,7 @@ fn relayed<D: SectorDisk, P: Wire, C: Wire>(
     relay(endpoint, controlled, common, turns)
 }
 
-fn counted(
+pub(super) fn counted(
     sent: u64,
     delivered: u64,
     dropped: u64,
@@ -46,7 +46,7 @@ pub(super) fn push_plain<A: Allocator + Copy>(
 }
 
 /// The packet number in the SecTAG of a frame.
-fn packet_number(frame: &[u8]) -> Option<u32> {
+pub(super) fn packet_number(frame: &[u8]) -> Option<u32> {
     let octets = frame.get(16..20)?;
     Some(u32::from_be_bytes([octets[0], octets[1], octets[2], octets[3]]))
 }

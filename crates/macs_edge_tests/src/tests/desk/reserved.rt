@@ -1,9 +1,9 @@
 //! What is reported of an endpoint whose packet numbers are reserved in blocks of 16.
 
 use super::clients::{Asker, expect_told};
-use super::traffic::{PLAIN, THERE, receive_under, send_under};
+use super::traffic::{PLAIN, receive_under, send_under};
 use super::{program, relay_between};
-use crate::tests::endpoints::{OWN, command, formatted, opened};
+use crate::tests::endpoints::{OWN, THERE, command, formatted, opened};
 use macs_commands::requests::NoMetrics;
 use macs_config::Command;
 use macs_control::desk::{ControlDesk, NoSystem, report_paper};

@@ -2,7 +2,7 @@
 
 use super::clients::{Asker, expect_told};
 use super::program;
-use crate::tests::endpoints::{OWN, command, formatted, number_of, opened};
+use crate::tests::endpoints::{OWN, THERE, command, formatted, number_of, opened};
 use macs_aes::Key;
 use macs_commands::requests::NoMetrics;
 use macs_config::Command;
@@ -10,7 +10,7 @@ use macs_control::desk::{ControlDesk, Dropped, KeyNotes, NoteFault, Overruns, Ti
 use macs_disk::MemDisk;
 use macs_edge::{MemWire, attend};
 use macs_endpoint::Endpoint;
-use macs_frame::{FrameBuf, Sci};
+use macs_frame::FrameBuf;
 use std::alloc::Global;
 use std::process::Abort;
 
@@ -38,8 +38,6 @@ impl KeyNotes for AtTen {
         Ok(())
     }
 }
-
-pub(super) const THERE: Sci = Sci([2, 0, 0, 0, 0, 2, 0, 1]);
 
 /// A frame with 48 octets of User Data.
 pub(super) const PLAIN: [u8; 60] = [9; 60];
