@@ -5,10 +5,12 @@
     python3 tools/manual_pages.py check PROGRAM FOLDER
 
 `make` writes both pages into FOLDER. `check` has them rendered (`mandoc`, or `groff` where that is not there) and looks for what has to be in
-them: each line of each help, each subcommand, option and status, each line that docs/OPERATIONS.md says the program prints, with its status,
-and each command and refusal of docs/MACSEC.md. It prints a line for each that is missing, and ends with status 1 where there is one.
+them: each line of each help, each subcommand, option and status, each heading of docs/OPERATIONS.md, each row of its tables of lines, and each
+command and refusal of docs/MACSEC.md. It also looks for broken sentences: one that ends in two stops, as `..` or `?.`, one that begins with a
+small letter, a `status:` of the help that is not one paragraph. It prints a line for each that is missing or broken, and ends with status 1
+where there is one.
 
-`check` reads the help and the documents by itself, and the pages only as they are rendered.
+`check` reads the help and the documents by itself, and what has to be in the pages only as they are rendered.
 """
 import itertools
 import os
@@ -72,14 +74,29 @@ def section(name, heading):
     return "\n".join(found).strip("\n")
 
 
+def sections(name):
+    """The sections of a document, by their headings: each with what is below it, up to the next heading of the second level."""
+    return {it: section(name, f"## {it}") for it in re.findall(r"^## (.*)$", document(name), re.M)}
+
+
+def headings(text):
+    """The headings in a text, without those in code."""
+    return re.findall(r"^#+ (.*)$", re.sub(r"^```.*?^```", "", text, flags=re.M | re.S), re.M)
+
+
 def cells(row):
-    return [it.strip() for it in row.strip().strip("|").split("|")]
+    return [it.strip() for it in row.strip()[1:-1].split("|")]
+
+
+def tables(text):
+    """The tables of a text: the rows of each, its heading first."""
+    for rows in re.finditer(r"^(\|.*)\n\|[-| :]*\n((?:\|.*(?:\n|$))*)", text, re.M):
+        yield [cells(it) for it in [rows.group(1), *rows.group(2).splitlines()]]
 
 
 def table(text):
     """The rows of the first table of a text, its heading first."""
-    rows = re.search(r"^\|.*\n\|[-| :]*\n((?:\|.*\n?)*)", text, re.M)
-    return [cells(rows.group(0).splitlines()[0]), *(cells(it) for it in rows.group(1).splitlines())]
+    return next(tables(text))
 
 
 # Markdown, as the documents have it, into roff.
@@ -90,9 +107,14 @@ def escaped(text):
     return r"\&" + text if text.startswith((".", "'")) else text
 
 
+def without_links(text):
+    """A text with links as their words. One that is alone in brackets goes: it leads to another page."""
+    return re.sub(r"\[([^]]*)\]\([^)]*\)", r"\1", re.sub(r"\s\(\[[^]]*\]\([^)]*\)\)", "", text))
+
+
 def inline(text):
     """A line of running text: links without their targets, code and emphasis in bold."""
-    text = re.sub(r"\[([^]]*)\]\([^)]*\)", r"\1", text)
+    text = without_links(text)
     parts = re.split(r"(`[^`]*`|\*\*)", text)
     bold, out = False, []
     for part in parts:
@@ -113,15 +135,31 @@ def verbatim(lines):
     return [".PP", f".in {room}n", ".nf", *(escaped(it) for it in lines), ".fi", ".in"]
 
 
+def sentences_of(heading, row):
+    """What a row says beside its first cell: a sentence for each other cell, under its heading from the third one on."""
+    labels = [f"{it}: " for it in heading[1:]]
+    if len(row) == 2 or heading[1] == "cause":
+        labels[0] = ""
+    if heading[0] == "order":
+        labels = [f"{heading[2]} "]
+        row = row[1:]
+    return " ".join(closed(capital(label + cell)) for label, cell in zip(labels, row[1:]) if cell)
+
+
+def tag_of(heading, row):
+    if heading[0] == "order":
+        return f"{row[0]} {row[1]}"
+    return f"{heading[0]} {row[0]}" if heading[0].isupper() else row[0]
+
+
 def row_of(heading, row):
-    """A row of a table as a paragraph with a tag: the line that is printed, the refusal, or the first cell."""
-    if heading[0] == "status":
-        tag, rest = row[1], [f"Status {row[0]}: {row[2]}", *(f"{capital(label)}: {cell}" for label, cell in zip(heading[3:], row[3:]) if cell)]
-    elif heading[0] == "order":
-        tag, rest = f"{row[0]} {row[1]}", [capital(f"{heading[2]} {row[2]}")]
-    else:
-        tag, rest = f"{heading[0]} {row[0]}" if heading[0].isupper() else row[0], [capital(f"{label}: {cell}" if len(row) > 2 else cell) for label, cell in zip(heading[1:], row[1:])]
-    return [".TP", inline(f"**{tag.replace('`', '')}**"), inline(" ".join(it if it.endswith((".", "?")) else f"{it}." for it in rest))]
+    """A row of a table as a paragraph with a tag: the line that is printed, the refusal, or the first cell. Where that is empty it has the tag above."""
+    mark = [".TP", inline(f"**{tag_of(heading, row).replace('`', '')}**")] if row[0] else [".IP"]
+    return [*mark, inline(sentences_of(heading, row))]
+
+
+def closed(text):
+    return text if text.endswith((".", "?")) else f"{text}."
 
 
 def capital(text):
@@ -210,33 +248,29 @@ def synopsis(given):
             yield from [".br", rf"\fBmacsecd\fR {escaped(usage.removeprefix('macsecd '))}"]
 
 
+# The sections of OPERATIONS that macsecd-link(5) has, and those that neither page has, since the help is in them.
+OF_A_LINK = ("Set up a link", "Keys")
+OF_NO_PAGE = ("Subcommands",)
+KEYS_ARE_THERE = "How a link is set up by hand, its command files, and how its keys are changed: see **macsecd-link**(5)."
+
+
+def operations():
+    """The sections of OPERATIONS that macsecd(1) has."""
+    return {name: text for name, text in sections("docs/OPERATIONS.md").items() if name not in (*OF_A_LINK, *OF_NO_PAGE)}
+
+
 def page_of_program(given):
-    service = section("docs/PACKAGE.md", "## A link as a service")
-    printed = section("docs/OPERATIONS.md", "## What is printed")
     parts = [
         head("MACSECD", 1, "User Commands", given.version),
         [".SH NAME", r"macsecd \- a MACsec endpoint in user space that uses no packet number twice", ".SH SYNOPSIS", *list(synopsis(given))[1:]],
         [".SH DESCRIPTION", *roff(section("docs/PACKAGE.md", "## What it is")), *help_text(given.text)],
         [".SH SUBCOMMANDS", *roff(EXAMPLES_ARE_THERE)],
         *([f".SS {it.word}", *help_text(it.text)] for it in given.subcommands),
-        [".SH A LINK AS A SERVICE", *roff(service)],
-        [".SH LINES THAT ARE PRINTED", *roff(printed)],
         [".SH EXIT STATUS"],
-        *([".TP", rf"\fB{status}\fR", escaped(meaning)] for status, meaning in given.statuses()),
-        [".SH CAPTURES", *roff(section("docs/OPERATIONS.md", "## Captures"))],
-        [".SH A LINK BETWEEN TWO NETWORKS", *roff(section("docs/OPERATIONS.md", "## A link between two networks"))],
-        [".SH A LINK THAT RUNS FOR YEARS", *roff(section("docs/OPERATIONS.md", "## A link that runs for years"))],
-        [".SH CHANGING KEYS", *roff(section("docs/OPERATIONS.md", "### Changing keys"))],
-        [".SH CHANGING KEYS BY PLAN", *roff(section("docs/OPERATIONS.md", "### Changing keys by plan"))],
-        [".SH CHOOSING BLOCKS", *roff(section("docs/OPERATIONS.md", "## Choosing blocks"))],
-        [".SH AFTER A POWER LOSS", *roff(section("docs/OPERATIONS.md", "### After a power loss"))],
-        [".SH A FILE OF AN OLDER PROGRAM", *roff(section("docs/OPERATIONS.md", "### A file of an older program"))],
-        [".SH A FAILED SYNC", *roff(section("docs/OPERATIONS.md", "### A failed sync"))],
-        [".SH EACH OPENING MAKES THE FILE ANEW", *roff(section("docs/OPERATIONS.md", "### Each opening makes the file anew"))],
-        [".SH DISK FILES", *roff(section("docs/OPERATIONS.md", "### Devices and file systems"))],
-        [".SH OCTETS THAT ROT", *roff(section("docs/OPERATIONS.md", "### Octets that rot"))],
-        [".SH WHAT NEVER TO DO WITH A DISK FILE", *roff(section("docs/OPERATIONS.md", "### What never to do with a disk file"))],
-        [".SH A LOST DISK FILE", *roff(section("docs/OPERATIONS.md", "### A lost disk file"))],
+        *([".TP", rf"\fB{status}\fR", escaped(capital(closed(meaning)))] for status, meaning in given.statuses()),
+        [".SH A LINK AS A SERVICE", *roff(section("docs/PACKAGE.md", "## A link as a service"))],
+        [".SH KEYS", *roff(KEYS_ARE_THERE)],
+        *([f".SH {inline(name.upper())}", *roff(text)] for name, text in operations().items()),
         [".SH INSTALLING, UPGRADING, REMOVING", *roff(section("docs/PACKAGE.md", "## Installing, upgrading, removing"))],
         [".SH FILES", *roff(section("docs/PACKAGE.md", "## Files"))],
         [".SH SEE ALSO", r"\fBmacsecd\-link\fR(5), \fBsystemd.service\fR(5), \fBip\-macsec\fR(8), \fBsocat\fR(1)"],
@@ -245,6 +279,7 @@ def page_of_program(given):
 
 
 CLAUSES = "Numbers in brackets are clauses of IEEE Std 802.1AE-2018."
+FILES_OF_A_LINK = "A link file describes a link. `macsecd plan` makes command files of it, which `macsecd apply` gives to the endpoint of a disk file."
 
 
 def page_of_link(given):
@@ -253,11 +288,10 @@ def page_of_link(given):
     parts = [
         head("MACSECD-LINK", 5, "File Formats", given.version),
         [".SH NAME", r"macsecd\-link \- command files and the settings of a link of macsecd"],
-        [".SH DESCRIPTION", *roff(section("docs/PACKAGE.md", "## What a link is made of")), *help_text(apply.text)],
+        [".SH DESCRIPTION", *roff(FILES_OF_A_LINK), *help_text(apply.text)],
         [".SH COMMANDS", *roff(section("docs/MACSEC.md", "### Commands"))],
         [".SH CONFIGURATION", *roff(CLAUSES), *roff(section("docs/MACSEC.md", "## The configuration").split("\n### ")[0].replace(" (own)", ""))],
-        [".SH CHANGING KEYS", *roff(section("docs/OPERATIONS.md", "### Changing keys"))],
-        [".SH CHANGING KEYS BY PLAN", *roff(section("docs/OPERATIONS.md", "### Changing keys by plan"))],
+        *([f".SH {name.upper()}", *roff(sections("docs/OPERATIONS.md")[name])] for name in OF_A_LINK),
         [".SH SETTINGS OF A SERVICE", *roff(section("docs/PACKAGE.md", "## Settings of a service"))],
         [".SH EXAMPLES"], *examples,
         [".SH SEE ALSO", r"\fBmacsecd\fR(1), \fBsystemd.exec\fR(5)"],
@@ -285,19 +319,19 @@ def make(given, folder):
 
 # What has to be in them.
 
-def rendered(path):
-    """A page as it is read, in lines so long that none is broken."""
+def rendered_lines(path):
+    """The lines of a page as it is read, 900 columns wide: a `status:` is one."""
     words = ["mandoc", "-O", "width=900", "-T", "utf8"] if shutil.which("mandoc") else ["groff", "-man", "-Tutf8", "-Kutf8", "-rLL=900n"]
     text = subprocess.run([*words, path], capture_output=True, text=True, check=True).stdout
     text = re.sub("\x1b\\[[0-9;]*m|.\b", "", text)
     for written, meant in zip("‐−’‘•", "--''-"):
         text = text.replace(written, meant)
-    return joined(text)
+    return [joined(it) for it in text.splitlines()]
 
 
 def plain(text):
     """A cell of a table as it is read."""
-    return joined(re.sub(r"\[([^]]*)\]\([^)]*\)", r"\1", text).replace("`", "").replace("**", ""))
+    return joined(without_links(text).replace("`", "").replace("**", ""))
 
 
 def wanted_of_help(given):
@@ -311,12 +345,23 @@ def wanted_of_help(given):
 
 
 def wanted_of_operations():
-    for heading in ("### Results", "### Refusals", "### Faults"):
-        for status, line, *_ in table(section("docs/OPERATIONS.md", heading) + "\n")[1:]:
-            yield f"the line {line} with status {status}", f" {plain(line)} Status {status}: "
+    """The headings of macsecd(1), and the rows of the tables of lines: each line with the first of what is said of it, and what is said more."""
+    for name, text in operations().items():
+        yield from ((f"the heading {it}", it) for it in [name.upper(), *headings(text)])
+    for _, *rows in tables(sections("docs/OPERATIONS.md")["What is printed"]):
+        line = ""
+        for row in rows:
+            line = row[0] or line
+            yield f"the line {line}: {row[1]}", f"{plain(row[0])} {capital(plain(row[1]))}"
+            yield from ((f"what to do of the line {line}: {it}", f"What to do: {plain(it)}") for it in row[2:] if it)
     shown = re.search(r"```text\n(.*?)```", section("docs/OPERATIONS.md", "### Results"), re.S).group(1)
     yield from ((f"a line of show: {joined(it)}", joined(it)) for it in shown.splitlines())
     yield from ((f"the option {it} of OPERATIONS", it) for it in sorted(set(re.findall(r"(?<![\w-])--[a-z]+", without(document("docs/OPERATIONS.md"), "```")))))
+
+
+def wanted_of_keys():
+    for name in OF_A_LINK:
+        yield from ((f"the heading {it}", it) for it in [name.upper(), *headings(sections("docs/OPERATIONS.md")[name])])
 
 
 def wanted_of_commands(given):
@@ -335,18 +380,86 @@ def is_in(words, text):
     return re.search(rf"(?<![\w-]){re.escape(words.strip())}(?![\w-])", text) is not None
 
 
+def wanted(given):
+    """What has to be in each page."""
+    return [*wanted_of_help(given), *wanted_of_operations()], [*wanted_of_commands(given), *wanted_of_keys()]
+
+
 def missing(given, folder):
-    wanted = [*wanted_of_help(given), *wanted_of_operations()], list(wanted_of_commands(given))
-    for name, its in zip(PAGES, wanted):
-        text = rendered(f"{folder}/{name}")
+    for name, its in zip(PAGES, wanted(given)):
+        text = joined(" ".join(rendered_lines(f"{folder}/{name}")))
         yield from (f"{name}: {what}" for what, words in its if not is_in(words, text))
 
 
+# Broken sentences.
+
+def running_text(path):
+    """The lines of running text of a page in roff: no code, no tags, no usages."""
+    code = usages = tag = False
+    for line in page_lines(path):
+        if line.startswith("."):
+            code = line == ".nf" or code and line != ".fi"
+            usages = line == ".SH SYNOPSIS" or usages and not line.startswith(".SH")
+            tag = line == ".TP"
+        elif tag:
+            tag = False
+        elif not code and not usages:
+            yield line
+
+
+# Words that begin no sentence with a capital letter: names, and marks of the help.
+SMALL = r"(?:status:|ext4|macsecd)"
+# Two stops, or a stop after another mark. Between blanks two stops are a range.
+TWO_STOPS = re.compile(r"\?\.|(?<=\S)\.\.|[,;:]\.")
+
+
+def broken_sentences(path):
+    """The sentences of a page that are none: what is wrong, and where. Code, which is bold, may have any stops, and follow one in any letter."""
+    for line in running_text(path):
+        read, without_code = re.sub(r"\\f.|\\&", "", line), re.sub(r"\\fB.*?\\f.", "CODE", line)
+        if TWO_STOPS.search(without_code) or read.endswith(("..", "?.")):
+            yield f"a sentence has two stops: {read}"
+        yield from (f"a small letter after a stop: {it[0]}" for it in re.finditer(rf"(?<![.\s])[.?] (?!{SMALL})[a-z].{{0,40}}", line))
+
+
+def broken_starts(path):
+    """The paragraphs that begin with a small letter. One after code may, if the sentence began before it. An item of a list may where the list is a
+    sentence: its items end in `;`."""
+    in_list, lines = False, page_lines(path)
+    for earlier, before, line in zip(["", *lines], lines, lines[1:]):
+        begins = before.startswith((".SH", ".SS")) or before == ".PP" and earlier != ".in" or before.startswith(".IP") and not in_list or earlier == ".TP"
+        if begins and re.match(rf"(?!{SMALL})[a-z]", line) and not line.endswith(";"):
+            yield f"a paragraph begins with a small letter: {line}"
+        in_list = line.endswith(";") or in_list and not line.startswith((".PP", ".SH", ".SS", ".TP"))
+
+
+def page_lines(path):
+    with open(path, encoding="utf-8") as lines:
+        return lines.read().splitlines()
+
+
+def cut_statuses(given, path):
+    """The texts of the help whose `status:` is not one paragraph of a page."""
+    shown = rendered_lines(path)
+    for text in given.texts():
+        status = joined(re.search(r"^status: .*(?:\n +.*)*", text, re.M)[0])
+        if status not in shown:
+            yield f"no paragraph is: {status}"
+
+
+def broken(given, folder):
+    for name in PAGES:
+        path = f"{folder}/{name}"
+        yield from (f"{name}: {it}" for it in [*broken_sentences(path), *broken_starts(path)])
+    yield from (f"{PAGES[0]}: {it}" for it in cut_statuses(given, f"{folder}/{PAGES[0]}"))
+
+
 def check(given, folder):
-    found = list(missing(given, folder))
-    count = len([*wanted_of_help(given), *wanted_of_operations(), *wanted_of_commands(given)])
-    print(*(f"missing in {it}" for it in found), f"{count - len(found)} there, {len(found)} missing", sep="\n")
-    return 1 if found else 0
+    absent, bad = list(missing(given, folder)), list(broken(given, folder))
+    count = sum(len(it) for it in wanted(given))
+    print(*(f"missing in {it}" for it in absent), *(f"broken in {it}" for it in bad), sep="\n", end="\n" if absent or bad else "")
+    print(f"{count - len(absent)} there, {len(absent)} missing, {len(bad)} broken")
+    return 1 if absent or bad else 0
 
 
 def main():
