@@ -1,6 +1,7 @@
-//! What goes on beside an attended relay or a keeper, in its own process: clients that come once
-//! everything is bound, and the parent that is notified.
+//! What goes on beside a relay or a keeper, in its own process: clients that come once everything is
+//! bound, the parent that is notified, and the keeper of the disk.
 
+use super::keepers::Keeper;
 use super::visitors::Visitor;
 use libc::net as c;
 use os::FromRawFd;
@@ -9,10 +10,11 @@ use std::cell::{Cell, RefCell};
 use std::io;
 use std::io::{ErrorKind, Read, Write};
 use std::net::Net;
-use std::os::fd::AsFd;
+use std::os::fd::{AsFd, OwnedFd};
 use std::os::unix::net::{SocketAddr, UnixStream};
 use std::rt::Files;
 use std::test::Fail;
+use std::time::Duration;
 
 /// A client of a control socket, its connection, once it has one, and all that was said to it.
 #[derive(Drop)]
@@ -157,9 +159,9 @@ impl Parent {
         })
     }
 
-    /// The line of a moment: the notices that have come since the last one, and whether the control
-    /// socket has its name.
-    fn line(&self, moment: &str, is_named: bool) -> Result<String, AllocError> {
+    /// The line of a moment: the notices that have come since the last one, whether the control
+    /// socket has its name, and whether a client was refused.
+    fn line(&self, moment: &str, is_named: bool, is_refused: bool) -> Result<String, AllocError> {
         let mut line = String::new(self.alloc);
         line.push_str(moment)?;
         let mut room = [0; 64];
@@ -171,13 +173,14 @@ impl Parent {
             line.push_str(" ")?;
             line.push_str(str::from_utf8(&room[..count]).unwrap_or("no text"))?;
         }
-        line.push_str(if is_named { " named\n" } else { "\n" })?;
+        line.push_str(if is_named { " named" } else { "" })?;
+        line.push_str(if is_refused { " refused\n" } else { "\n" })?;
         Ok(line)
     }
 
     /// Looks at a moment. Nothing is added where it is as the one before.
-    fn look(&self, moment: &str, is_named: bool) -> Result<(), AllocError> {
-        let line = self.line(moment, is_named)?;
+    fn look(&self, moment: &str, is_named: bool, is_refused: bool) -> Result<(), AllocError> {
+        let line = self.line(moment, is_named, is_refused)?;
         if let Ok(mut seen) = self.seen.try_borrow_mut() {
             if !seen.ends_with(line.as_str()) {
                 seen.push_str(line.as_str())?;
@@ -195,7 +198,7 @@ impl Parent {
     }
 }
 
-/// What goes on beside a relay with a control socket, or a keeper.
+/// What goes on beside a relay or a keeper.
 #[derive(Drop)]
 pub struct Beside {
     control: &'static str,
@@ -204,6 +207,7 @@ pub struct Beside {
     have_come: Cell<bool>,
     have_gone_on: Cell<bool>,
     parent: Option<Parent>,
+    keeper: Option<Keeper>,
 }
 
 impl Beside {
@@ -216,6 +220,7 @@ impl Beside {
             have_come: Cell::new(false),
             have_gone_on: Cell::new(false),
             parent: None,
+            keeper: None,
         }
     }
 
@@ -245,6 +250,22 @@ impl Beside {
     ) -> Result<(), Fail> {
         self.parent = Some(Parent::new(files, alloc, name)?);
         Ok(())
+    }
+
+    /// Adds a keeper of the disk.
+    pub fn keep(&mut self, keeper: Keeper) {
+        self.keeper = Some(keeper);
+    }
+
+    /// A connection to the keeper, if the name is its; else to whoever listens there.
+    pub fn connect(&self, system: &(impl Net + Files), at: &SocketAddr) -> io::Result<UnixStream> {
+        match &self.keeper {
+            Some(keeper) if keeper.is_at(at) => {
+                self.look(system, "keeper");
+                keeper.let_in()
+            }
+            Some(_) | None => system.connect_unix(at),
+        }
     }
 
     /// Has the clients come, one after another: those that find nobody have heard nothing in the
@@ -290,11 +311,33 @@ impl Beside {
         }
     }
 
+    /// Whether the second client of a keeper has a connection that has ended.
+    fn is_refused(&self) -> bool {
+        match self.visitors.get(1) {
+            Some(visitor) => visitor.has_ended(),
+            None => false,
+        }
+    }
+
+    /// Looks at the moment of a call of a keeper's disk file.
+    pub fn look_at_call(&self, files: &impl Files) {
+        if !self.visitors.is_empty() {
+            self.look(files, "call");
+        }
+    }
+
+    /// This socket, on which a keeper waits for a client for at most 0.3 s.
+    pub fn limit(&self, socket: OwnedFd) -> io::Result<OwnedFd> {
+        let stream = UnixStream::from(socket);
+        stream.set_read_timeout(Some(Duration::from_millis(300)))?;
+        Ok(OwnedFd::from(stream))
+    }
+
     /// Looks at a moment of a run.
     pub fn look(&self, files: &impl Files, moment: &str) {
         if let Some(parent) = &self.parent {
             let is_named = files.symlink_metadata(self.control).is_ok();
-            let _ = parent.look(moment, is_named);
+            let _ = parent.look(moment, is_named, self.is_refused());
         }
     }
 

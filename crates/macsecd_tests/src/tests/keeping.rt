@@ -1,17 +1,29 @@
-//! Keepers of a disk file: to each come two clients at once, of which it serves the first.
+//! Keepers of a disk file: to most come two clients at once, of which it serves the first.
 
 use super::stand_in::Broken;
 use super::stories::Step::{Claimed, HasOctets, Keep, Run, Text, Zeros};
 use super::stories::{Kept, Step, play};
 use crate::Outcome::{Disk, Done, Fault};
 use std::test::Fail;
+use std::time::{Duration, Instant};
 
-/// The moments of a run: the socket has its name before the parent is notified; the name is removed
-/// once a client has come.
+/// The moments of a run: the disk file is opened, and the socket has its name, before the parent is
+/// notified. Once a client has come the name is removed, then the other client is refused, and then
+/// the first call of the disk is made.
 const SEEN: &str = "\
+call
 bound named
 removal READY=1 named
-end
+call refused
+end refused
+";
+
+/// The same where no call reaches the file.
+const IDLE: &str = "\
+call
+bound named
+removal READY=1 named
+end refused
 ";
 
 /// A keeper of a disk of two sectors, which one call is asked of: the second sector is read.
@@ -19,6 +31,7 @@ const READ: Kept = Kept {
     disk: "story-keeps/disk",
     broken: Broken::Nothing,
     socket: "story-keeps/keeper",
+    clients: 2,
     sectors: 2,
     requests: &[(1, 1, 0)],
     answers: &[(1, 0)],
@@ -47,6 +60,7 @@ const KEPT: &[Step] = &[
         requests: &[],
         answers: &[],
         parent: "story-keeps/fourth",
+        seen: IDLE,
         ..READ
     }),
 ];
@@ -75,6 +89,7 @@ const STRANGE: &[Step] = &[
         requests: &[(3, 0, 0), (1, 2, 0), (2, 1, 97)],
         answers: &[(2, 0)],
         parent: "story-strange/second",
+        seen: IDLE,
         outcome: Fault("macsecd: control\n"),
         ..READ
     }),
@@ -109,6 +124,28 @@ const FAILING: &[Step] = &[
 #[test]
 fn a_call_that_fails_ends_no_keeper(rt: HostRuntime) -> Result<(), Fail> {
     play(&rt, rt.alloc(), "story-faults", FAILING)
+}
+
+/// A keeper to which nobody comes: its listener waits for 0.3 s.
+const NOBODY: &[Step] = &[
+    Zeros("story-nobody/disk", 1_024),
+    Keep(Kept {
+        disk: "story-nobody/disk",
+        socket: "story-nobody/keeper",
+        clients: 0,
+        parent: "story-nobody/notify",
+        seen: "bound named\nremoval READY=1 named\nend\n",
+        outcome: Fault("macsecd: control\n"),
+        ..READ
+    }),
+];
+
+#[test]
+fn a_keeper_waits_for_a_client(rt: HostRuntime) -> Result<(), Fail> {
+    let begun = Instant::now(&rt)?;
+    play(&rt, rt.alloc(), "story-nobody", NOBODY)?;
+    assert!(rt; begun.elapsed(&rt)? >= Duration::from_millis(300));
+    Ok(())
 }
 
 const WORDS: &[&str] = &["keep", "story-names/disk", "story-names/keeper"];

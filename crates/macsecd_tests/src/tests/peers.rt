@@ -1,4 +1,4 @@
-//! The peers of two wires: a frame of theirs waits at each wire as soon as it is bound, after what
+//! The peers of two wires: a frame of theirs waits at each wire as soon as it is bound, between what
 //! strangers sent or not.
 
 use std::alloc::Global;
@@ -14,7 +14,7 @@ pub const OWN1: &str = "127.0.0.1:0";
 pub const OWN2: &str = "127.0.0.2:0";
 
 /// An address of loopback, with any port.
-fn at(octet: u8) -> SocketAddr {
+pub fn at(octet: u8) -> SocketAddr {
     SocketAddr::from(([127, 0, 0, octet], 0))
 }
 
@@ -56,13 +56,13 @@ pub struct Peers {
     second: Peer,
     /// Whether the first wire is bound.
     is_begun: Cell<bool>,
-    /// What sends datagrams in front of each frame, and how many.
+    /// What sends datagrams in front of each frame, and how many. As many come after it.
     stranger: UdpSocket,
     strangers: u32,
 }
 
 impl Peers {
-    /// Peers that send these frames, each after so many datagrams of a stranger.
+    /// Peers that send these frames, each between so many datagrams of a stranger and as many.
     pub fn new(
         net: &impl Net,
         first: Vec<u8>,
@@ -78,16 +78,22 @@ impl Peers {
         })
     }
 
-    /// Sends what is to wait at the wire of a peer: the frame, after what a stranger sends.
+    /// Sends what a stranger does.
+    fn disturb(&self, wire: SocketAddr) -> io::Result<()> {
+        for _ in 0..self.strangers {
+            self.stranger.send_to(b"stranger", wire)?;
+        }
+        Ok(())
+    }
+
+    /// Sends what is to wait at the wire of a peer: the frame, between what a stranger sends.
     fn send(&self, peer: &Peer, wire: SocketAddr) -> io::Result<()> {
         if peer.frame.is_empty() {
             return Ok(());
         }
-        for _ in 0..self.strangers {
-            self.stranger.send_to(b"stranger", wire)?;
-        }
+        self.disturb(wire)?;
         peer.socket.send_to(&peer.frame, wire)?;
-        Ok(())
+        self.disturb(wire)
     }
 
     /// Binds a wire, and has its peer's frame wait there. A wire that is bound out of its turn is

@@ -49,14 +49,24 @@ const SHORT_READ: usize = 100;
 
 /// A file of the system of which something may fail.
 #[derive(Drop)]
-pub struct BrokenFile {
+pub struct BrokenFile<'a, R> {
+    system: &'a R,
     file: File,
     broken: Broken,
+    /// What goes on beside a program that has this for its disk file.
+    beside: Option<&'a Beside>,
     /// How many calls were made of the kind that fails.
     made: u32,
 }
 
-impl BrokenFile {
+impl<R: Files> BrokenFile<'_, R> {
+    /// Looks at the moment of a call of a disk file.
+    fn look(&self) {
+        if let Some(beside) = self.beside {
+            beside.look_at_call(self.system);
+        }
+    }
+
     /// Counts a call of the kind that fails. An error where it is the one.
     fn count(&mut self, failing: u32, kind: ErrorKind) -> io::Result<()> {
         self.made = self.made.saturating_add(1);
@@ -86,14 +96,14 @@ impl BrokenFile {
     }
 }
 
-impl Read for BrokenFile {
+impl<R: Files> Read for BrokenFile<'_, R> {
     fn read(&mut self, into: &mut [u8]) -> io::Result<usize> {
         let most = self.count_read(into.len())?.min(into.len());
         self.file.read(&mut into[..most])
     }
 }
 
-impl Write for BrokenFile {
+impl<R: Files> Write for BrokenFile<'_, R> {
     fn write(&mut self, from: &[u8]) -> io::Result<usize> {
         self.count_write()?;
         self.file.write(from)
@@ -107,13 +117,13 @@ impl Write for BrokenFile {
     }
 }
 
-impl Seek for BrokenFile {
+impl<R> Seek for BrokenFile<'_, R> {
     fn seek(&mut self, to: SeekFrom) -> io::Result<u64> {
         self.file.seek(to)
     }
 }
 
-impl OpenFile for BrokenFile {
+impl<R> OpenFile for BrokenFile<'_, R> {
     fn metadata(&self) -> io::Result<Metadata> {
         self.file.metadata()
     }
@@ -138,7 +148,7 @@ impl OpenFile for BrokenFile {
     }
 }
 
-impl DiskFile for BrokenFile {
+impl<R: Files> DiskFile for BrokenFile<'_, R> {
     ghost use Rattle.macs_disk.specs.Evidence.{no-claim};
 
     fn claim(&mut self) -> io::Result<()> {
@@ -150,16 +160,19 @@ impl DiskFile for BrokenFile {
     }
 
     fn read_at(&mut self, at: u64, into: &mut [u8]) -> io::Result<usize> {
+        self.look();
         let most = self.count_read(into.len())?.min(into.len());
         self.file.read_at(at, &mut into[..most])
     }
 
     fn write_at(&mut self, at: u64, from: &[u8]) -> io::Result<usize> {
+        self.look();
         self.count_write()?;
         self.file.write_at(at, from)
     }
 
     fn sync(&mut self) -> io::Result<()> {
+        self.look();
         if let Broken::Sync(failing) = self.broken {
             self.count(failing, ErrorKind::Other)?;
         }
@@ -169,7 +182,7 @@ impl DiskFile for BrokenFile {
     ghost sound = { λ _ behaves. no-claim behaves };
 }
 
-impl CaptureFile for BrokenFile {
+impl<R: Files> CaptureFile for BrokenFile<'_, R> {
     fn share(&mut self) -> io::Result<()> {
         self.file.share()
     }
@@ -190,19 +203,19 @@ pub struct StandIn<'a, R> {
     pub beside: Option<&'a Beside>,
 }
 
-impl<R: Files<File = File>> Files for StandIn<'_, R> {
-    type File = BrokenFile;
+impl<'a, R: Files<File = File>> Files for StandIn<'a, R> {
+    type File = BrokenFile<'a, R>;
 
     type Dir = R::Dir;
 
-    fn open_file(&self, how: &OpenOptions, path: &str) -> io::Result<BrokenFile> {
+    fn open_file(&self, how: &OpenOptions, path: &str) -> io::Result<BrokenFile<'a, R>> {
         // A path that was resolved has the folders in front of it too. What fails of a file fails
         // of the new one that is to have its name.
         let name = path.strip_suffix(".new").unwrap_or(path);
-        let broken = if name.ends_with(self.path) {
-            self.broken
+        let (broken, beside) = if name.ends_with(self.path) {
+            (self.broken, self.beside)
         } else {
-            Broken::Nothing
+            (Broken::Nothing, None)
         };
         if let Broken::Opening(kind) = broken {
             return Err(io::Error::from(kind));
@@ -216,8 +229,10 @@ impl<R: Files<File = File>> Files for StandIn<'_, R> {
         }
         let file = self.system.open_file(how, path)?;
         Ok(BrokenFile {
+            system: self.system,
             file,
             broken,
+            beside,
             made: 0,
         })
     }
@@ -353,10 +368,18 @@ impl<R: Net + Files> Net for StandIn<'_, R> {
     }
 
     fn connect_unix(&self, at: &net::SocketAddr) -> io::Result<UnixStream> {
-        self.system.connect_unix(at)
+        match self.beside {
+            Some(beside) => beside.connect(self.system, at),
+            None => self.system.connect_unix(at),
+        }
     }
 
+    /// A listener of a keeper waits for a client, but not for long.
     fn unix_socket(&self) -> io::Result<OwnedFd> {
-        self.system.unix_socket()
+        let socket = self.system.unix_socket()?;
+        match self.beside {
+            Some(beside) => beside.limit(socket),
+            None => Ok(socket),
+        }
     }
 }

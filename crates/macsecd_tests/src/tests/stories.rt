@@ -3,6 +3,7 @@
 mod attended;
 mod files;
 mod kept;
+mod kept_relays;
 mod relays;
 mod runs;
 
@@ -11,6 +12,7 @@ use super::stand_in::Broken;
 use crate::Outcome;
 pub use attended::{Attended, Client, Told};
 pub use kept::Kept;
+pub use kept_relays::KeptRelay;
 pub use relays::{Frames, Relayed};
 use std::alloc::Global;
 use std::fs;
@@ -37,6 +39,8 @@ pub enum Step {
     Attend(Attended),
     /// Keeps a disk file for a client.
     Keep(Kept),
+    /// Relays over the disk of a keeper.
+    RelayKept(KeptRelay),
     /// Runs these words while another open of the file of this path has claimed it: for itself
     /// alone, or along with other readers.
     Claimed(&'static str, &'static [&'static str], Outcome),
@@ -92,6 +96,7 @@ fn take(
         Step::Relay(relayed) => relays::relay(rt, alloc, relayed),
         Step::Attend(attended) => attended::attend(rt, alloc, attended),
         Step::Keep(kept) => kept::keep(rt, alloc, kept),
+        Step::RelayKept(relayed) => kept_relays::relay_kept(rt, alloc, relayed),
         _ => take_beside(rt, alloc, step),
     }
 }

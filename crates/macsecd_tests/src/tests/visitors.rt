@@ -3,7 +3,7 @@
 use std::alloc::Global;
 use std::cell::RefCell;
 use std::io;
-use std::io::{Read, Write};
+use std::io::{ErrorKind, Read, Write};
 use std::net::{Net, Shutdown};
 use std::os::unix::net::UnixStream;
 
@@ -19,6 +19,19 @@ fn rest_of(mut stream: &UnixStream, alloc: Global) -> Vec<u8> {
     let mut octets = Vec::new(alloc);
     let _ = stream.read_to_end(&mut octets);
     octets
+}
+
+/// Whether a connection has ended, with nothing to read. It does not wait.
+fn is_over(mut stream: &UnixStream) -> bool {
+    if stream.set_nonblocking(true).is_err() {
+        return false;
+    }
+    let is_over = match stream.read(&mut [0; 1]) {
+        Ok(count) => count == 0,
+        Err(error) => error.kind() == ErrorKind::ConnectionReset,
+    };
+    let _ = stream.set_nonblocking(false);
+    is_over
 }
 
 impl Visitor {
@@ -39,6 +52,17 @@ impl Visitor {
             *place = Some(stream);
         }
         Ok(())
+    }
+
+    /// Whether it has a connection that has ended, with nothing to read.
+    pub fn has_ended(&self) -> bool {
+        match self.stream.try_borrow() {
+            Ok(place) => match &*place {
+                Some(stream) => is_over(stream),
+                None => false,
+            },
+            Err(_) => false,
+        }
     }
 
     /// All that came to it, once its keeper has ended. `None` if it has no connection.

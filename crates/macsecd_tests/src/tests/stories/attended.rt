@@ -19,6 +19,8 @@ pub enum Told {
     Text(&'static str),
     /// The counters, of which the first line alone is looked at.
     Counters,
+    /// The counters, with the buffers of both wires.
+    Buffers,
 }
 
 /// A client: what it sends at first, what it sends once all clients have an answer to each of their
@@ -56,9 +58,19 @@ pub fn attend(
     run(rt, alloc, &beside, &attended);
     beside.look(rt, "end");
     assert!(rt; beside.has_seen(attended.seen));
-    for i in 0..attended.clients.len() {
+    expect_told(rt, alloc, &beside, attended.clients)
+}
+
+/// Clients were told what they are to be told.
+pub fn expect_told(
+    rt: &impl Abort,
+    alloc: Global,
+    beside: &Beside,
+    clients: &[Client],
+) -> Result<(), Fail> {
+    for i in 0..clients.len() {
         let text = beside.told(alloc, i)?;
-        let told = attended.clients[i].told;
+        let told = clients[i].told;
         assert!(rt; is_told(text.as_str(), told), "client {i}: {text}");
     }
     Ok(())
@@ -109,13 +121,25 @@ fn run<'a>(
     expect_over(rt, &system, alloc, &words, attended.outcome);
 }
 
+/// What is left of a text after counters, if it begins with those of an endpoint that protected no
+/// frame.
+fn after_counters(text: &str) -> Option<(&str, &str)> {
+    let counts = text.strip_prefix("tx protected 0\n")?;
+    counts.split_once("\nend 0\n")
+}
+
 /// What is left of a text after an answer, if it begins with that.
 fn behind(text: &str, answer: Told) -> Option<&str> {
     match answer {
         Told::Text(wanted) => text.strip_prefix(wanted),
         Told::Counters => {
-            let counts = text.strip_prefix("tx protected 0\n")?;
-            let (_, rest) = counts.split_once("\nend 0\n")?;
+            let (_, rest) = after_counters(text)?;
+            Some(rest)
+        }
+        Told::Buffers => {
+            let (counts, rest) = after_counters(text)?;
+            let (_, after) = counts.split_once("\nwire 1 buffer ")?;
+            after.split_once("\nwire 2 buffer ")?;
             Some(rest)
         }
     }

@@ -19,15 +19,16 @@ pub type Request = (u8, u64, u8);
 /// An answer: its first octet, and what its sector is full of.
 pub type Answer = (u8, u8);
 
-/// A keeper, to which two clients come at once, and what it comes to.
+/// A keeper, to which clients come at once, and what it comes to.
 #[derive(Clone, Copy)]
 pub struct Kept {
     pub disk: &'static str,
     /// What fails of the disk file.
     pub broken: Broken,
     pub socket: &'static str,
-    /// How many sectors the first client is told, what it sends, and its answers. What the second
-    /// one sends is not read.
+    pub clients: usize,
+    /// How many sectors the first client is told, what each sends, and the answers to the first
+    /// one. What another one sends is not read.
     pub sectors: u64,
     pub requests: &'static [Request],
     pub answers: &'static [Answer],
@@ -76,16 +77,21 @@ pub fn keep(
     run(rt, alloc, &beside, &kept);
     beside.look(rt, "end");
     assert!(rt; beside.has_seen(kept.seen));
-    let answers = answers_of(alloc, kept.sectors, kept.answers)?;
-    assert!(rt; beside.answered(alloc, 0) == Some(answers));
-    assert!(rt; beside.answered(alloc, 1) == Some(Vec::new(alloc)));
+    for client in 0..kept.clients {
+        let answers = if client == 0 {
+            answers_of(alloc, kept.sectors, kept.answers)?
+        } else {
+            Vec::new(alloc)
+        };
+        assert!(rt; beside.answered(alloc, client) == Some(answers));
+    }
     Ok(())
 }
 
 /// Who is there beside the keeper.
 fn beside(files: &impl Files<File = File>, alloc: Global, kept: &Kept) -> Result<Beside, Fail> {
     let mut beside = Beside::new(alloc, kept.socket);
-    for _client in 0..2_u32 {
+    for _client in 0..kept.clients {
         beside.admit(Visitor::new(requests_of(alloc, kept.requests)?))?;
     }
     beside.notify(files, alloc, kept.parent)?;

@@ -33,7 +33,7 @@ pub struct Relayed {
     pub pace: &'static str,
     pub turns: &'static str,
     pub frames: Frames,
-    /// How many datagrams of a stranger there are in front of each frame.
+    /// How many datagrams of a stranger there are in front of each frame, and after it.
     pub strangers: u32,
     pub outcome: Outcome,
 }
@@ -50,7 +50,7 @@ pub fn relay(
 }
 
 /// The peers that send these frames.
-fn peers_of(
+pub fn peers_of(
     rt: &(impl Abort + Net),
     alloc: Global,
     frames: Frames,
@@ -103,7 +103,7 @@ fn expect_relay<'a>(
 }
 
 /// The frames that are to come to the peers have come.
-fn expect_frames(
+pub fn expect_frames(
     rt: &impl Abort,
     alloc: Global,
     peers: &Peers,
