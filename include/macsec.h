@@ -16,6 +16,8 @@
 #include <stddef.h>
 #include <stdint.h>
 
+#define MACSEC_VERSION "0.1.0"
+
 #ifdef __cplusplus
 extern "C" {
 #endif
@@ -59,7 +61,7 @@ enum macs_name {
 
 /* What the SecTAG of a frame says (9.5 to 9.9), and the confidentiality offset (14.5). */
 struct macs_tag {
-    struct macs_sci sci; /* the transmit channel's, which enters the initialisation vector */
+    struct macs_sci sci; /* the transmit channel's, which is part of the initialisation vector */
     uint32_t pn;         /* the packet number, 1 to 2^32 - 1 */
     uint8_t an;          /* the association number, 0 to 3 */
     uint8_t name;        /* one of enum macs_name */
@@ -76,6 +78,11 @@ struct macs_opened {
 
 /* Keeps a key of 16 or 32 octets. MACS_OK or MACS_KEY. */
 uint32_t macs_key_new(const uint8_t *octets, size_t length, struct macs_key *key);
+
+/* Reads the SecTAG of a protected frame (9.3 to 9.9), before any key is looked for, into `tag`: `sci` is the SCI that it names, as an end
+ * station the source address with port 00-01, and zeros if `name` is MACS_IMPLICIT; `offset` is 0, since no SecTAG says it. Nothing is
+ * verified. MACS_OK, or the first fault of the frame of MACS_RUNT, MACS_OVERSIZE, MACS_NO_TAG, MACS_BAD_TAG and MACS_FOR_KAY. */
+uint32_t macs_read_tag(const uint8_t *frame, size_t length, struct macs_tag *tag);
 
 /* Protects a plain frame (10.5) into `out`, and says in `written` how many octets it has there. What comes after them stays as it
  * was. MACS_OK, MACS_KEY, MACS_FIELD, MACS_RUNT, MACS_OVERSIZE or MACS_ROOM, the first that holds in this order.

@@ -22,9 +22,13 @@ static void print_octets(const uint8_t *octets, size_t count) {
 int main(void) {
     struct macs_key key;
     struct macs_opened opened;
-    struct macs_tag tag = {SCI, 0xb2c28465, 2, MACS_EXPLICIT, 1, 0};
+    struct macs_tag tag = {SCI, 0xb2c28465, 2, MACS_EXPLICIT, 1, 0}, read;
     uint8_t plain[MACS_MAX_FRAME], sealed[MACS_MAX_FRAME];
     size_t count;
+
+    if (macs_read_tag(FRAME, sizeof FRAME, &read) != MACS_OK) return 1;
+    printf("under key %u of ", (unsigned)read.an);
+    print_octets(read.sci.octets, sizeof read.sci.octets);
 
     if (macs_key_new(KEY, sizeof KEY, &key) != MACS_OK) return 1;
     if (macs_open_frame(&key, &SCI, 0, FRAME, sizeof FRAME, plain, sizeof plain, &opened) != MACS_OK) return 1;

@@ -1,3 +1,4 @@
 pub mod Keys
 pub mod Fields
+pub mod Reading
 pub mod Refusals

@@ -2,12 +2,14 @@
 
 ghost use Rattle.std.specs.Prelude.{◌≡◌, ◌≢◌, ◌++◌, Option, Some, None, drop, length, true, false};
 ghost use Rattle.macs_c.specs.Keys.{IsKeyLength, is_key, key_octets};
+ghost use Rattle.macs_c.specs.Reading.{ReadAnswer};
 ghost use Rattle.macs_c.specs.Refusals.{OpenAnswer, code_of, seal_refusal, sealed_frame};
 ghost use Rattle.macs_c.specs.declared.refusals.Refusal.{Refusal};
 
 use crate::fields::{MacsOpened, MacsSci, MacsTag};
 use crate::keys::{MacsKey, keep};
 use crate::opening::open_into;
+use crate::reading::read_for_c;
 use crate::refusals::{Refusal, code_of};
 use crate::sealing::seal_into;
 
@@ -20,6 +22,24 @@ pub extern "C" fn macs_key_new(octets: &[u8], key: &mut MacsKey) -> u32
         → (result ≡ 1) × (¬ IsKeyLength (length octets.now)) × (key.new ≡ key.old) }
 {
     if keep(octets, key) { 0 } else { 1 }
+}
+
+/// Reads the SecTAG of a protected frame (9.3 to 9.9) before any key is looked for. Stores in `tag`
+/// its AN, its PN, whether User Data are encrypted, how it names its channel, and the SCI that it
+/// names: zeros if it names none. `offset` is 0: no SecTAG says it. Returns 0, or the code of the
+/// first fault of the frame: then `tag` is unchanged.
+#[unsafe(no_mangle)]
+pub extern "C" fn macs_read_tag(frame: &[u8], tag: &mut MacsTag) -> u32
+    ensures { (answer : Option Refusal) × (result ≡ code_of answer)
+        × ReadAnswer frame.now tag.old tag.new answer }
+{
+    match read_for_c(frame) {
+        Ok(found) => {
+            *tag = found;
+            code_of(None)
+        }
+        Err(refusal) => code_of(Some(refusal)),
+    }
 }
 
 /// Protects a plain frame (10.5) into `out`, and stores its length in octets in `written`. Returns

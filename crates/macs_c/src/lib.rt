@@ -6,9 +6,10 @@ mod exports;
 mod fields;
 mod keys;
 mod opening;
+mod reading;
 mod refusals;
 mod sealing;
 
-pub use exports::{macs_key_new, macs_open_frame, macs_seal_frame};
+pub use exports::{macs_key_new, macs_open_frame, macs_read_tag, macs_seal_frame};
 pub use fields::{MacsOpened, MacsSci, MacsTag};
 pub use keys::MacsKey;
