@@ -24,7 +24,7 @@ pub fn print_json<W: Stream>(alloc: Global, report: &str, out: &mut W) -> Result
     print_octets(out, json.as_slice())
 }
 
-/// Prints a report, as JSON if requested. Fails as `print_json` does.
+/// Prints a report, as JSON if requested. Fails as `print_json` does; a text needs no memory.
 pub fn print_report<W: Stream>(
     alloc: Global,
     report: &str,
@@ -35,6 +35,7 @@ pub fn print_report<W: Stream>(
         (Appends (W.contents out.old) (W.contents out.new) (in_form is_json report.now)) }
     ensures ended { IfErr result
         (λ failure. (failure ≡ Failure.Memory) ⊎ (failure ≡ Failure.Output)) }
+    ensures memory { IfErr result (λ failure. failure ≡ Failure.Memory → is_json ≡ true) }
     ensures silent { IfErr result (λ failure. failure ≢ Failure.Output → out.new ≡ out.old) }
     ensures broken { IfErr result (λ failure. failure ≡ Failure.Output → W.failed out.new ≡ true) }
 {

@@ -1,7 +1,7 @@
 //! `key`: a fresh key from the system's random source.
 
-ghost use Rattle.std.specs.Prelude.{◌≡◌, ◌≢◌, ◌⊎◌, ◌≤◌, ◌*◌, ℕ, List, Option, length, true, IfErr};
-ghost use Rattle.std.specs.Prelude.{IfOk, OnOk};
+ghost use Rattle.std.specs.Prelude.{◌≡◌, ◌≢◌, ◌⊎◌, ◌≤◌, ◌*◌, ℕ, Bool, List, Option, length, true};
+ghost use Rattle.std.specs.Prelude.{false, IfErr, IfOk, IsOk, OnOk};
 ghost use Rattle.std.specs.Io.KnownBytes.{Appends};
 ghost use Rattle.hex.specs.Hex.{encode_lower};
 ghost use Rattle.macs_offline.specs.Keys.{GivesKey, IsOfKey, PrintsKey, key_octets};
@@ -24,9 +24,13 @@ pub trait OctetSource {
     /// All octets that it has given so far, where known.
     ghost given: { Self → Option (List ℕ) };
 
+    /// Whether it is known that it never fails.
+    ghost steady: { Self → Bool } = { λ _. false };
+
     /// Fills the whole buffer.
     fn fill(&mut self, octets: &mut [u8]) -> Result<(), SourceFailed>
-        ensures { OnOk result (Appends (given self.old) (given self.new) octets.new) };
+        ensures given { OnOk result (Appends (given self.old) (given self.new) octets.new) }
+        ensures steady { steady self.old ≡ true → IsOk result };
 }
 
 /// The system's random source. Which octets it gives is not known.
@@ -82,6 +86,8 @@ pub fn print_key<S: OctetSource, W: Stream>(
         × PrintsKey is_long octets (W.contents out.old) (W.contents out.new)
         × (status ≡ Status.Done)) }
     ensures failed { IfErr result IsOfKey }
+    ensures steady { S.steady source.old ≡ true
+        → IfErr result (λ failure. failure ≢ Failure.Random) }
     ensures silent { IfErr result (λ failure. failure ≢ Failure.Output → out.new ≡ out.old) }
     ensures broken { IfErr result (λ failure. failure ≡ Failure.Output → W.failed out.new ≡ true) }
 {
