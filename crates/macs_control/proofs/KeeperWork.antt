@@ -1,5 +1,6 @@
 -- The work of a keeper, request after request.
-use Rattle.std.proofs.Common.{◌≡◌, ◌++◌, ℕ, Bool, true, List, [], ◌∷◌, Option, refl, subst, Result}
+use Rattle.std.proofs.Common.{◌≡◌, ◌≤◌, ◌-◌, ◌^◌, ◌+◌, ◌++◌, ℕ, Bool, true, List, [], ◌∷◌, length, Option, refl, subst, Result}
+use Rattle.std.proofs.lemmas.List.{length-append}
 use Rattle.macs_disk.specs.DeviceCalls.{IsMade, IsWithin}
 use Rattle.macs_disk.specs.Disk.{Disk}
 use Rattle.macs_disk.specs.Messages.{answer_octets, answer_to, greeting_octets, request_of}
@@ -8,7 +9,7 @@ use Rattle.macs_disk.specs.declared.disk.DeviceFault.{DeviceFault}
 use Rattle.macs_disk.specs.declared.messages.answer.CallAnswer.{CallAnswer}
 use Rattle.macs_control.specs.Keepers.{AsksNot, EndsWith, IsCut, Keeps, Makes, MakesEach, MakesOne, Served, Serves}
 use Rattle.macs_control.specs.Keepers.{Takes, end_of_cut}
-use Rattle.macs_control.specs.Links.{GivesOctets, Link}
+use Rattle.macs_control.specs.Links.{GivesOctets, Line, Link}
 use Rattle.macs_control.specs.declared.keeping.cut.Cut.{Cut}
 use Rattle.macs_control.specs.declared.keeping.cut.Cut.TheVariants as cut
 use Rattle.macs_control.specs.declared.keeping.keeper.KeepEnd.{KeepEnd}
@@ -57,8 +58,9 @@ makes before old mid call whole after new takes within (read, result, made, give
 )
 
 -- no request yet
-pub makes-none : (before : Disk) (old : Option Link) → (served : List Served) × MakesEach before old served before old
-makes-none before old = ([], (refl, refl))
+pub makes-none : (before : Disk) (old : Option Link)
+    → (served : List Served) × (length served ≡ 0) × MakesEach before old served before old
+makes-none before old = ([], refl, (refl, refl))
 
 each-more : (before : Disk) (old : Option Link) (served : List Served) (mid : Disk) (link : Option Link) (one : Served)
     (after : Disk) (new : Option Link) → MakesEach before old served mid link → Makes mid link one true after new
@@ -75,22 +77,22 @@ each-more before old (first ∷ others) mid link one after new (between, at, mak
 
 -- one more request
 pub makes-more : (before : Disk) (old : Option Link) (mid : Disk) (link : Option Link) (after : Disk)
-    (new : Option Link) → (served : List Served) × MakesEach before old served mid link
+    (new : Option Link) (served : List Served) → MakesEach before old served mid link
     → (one : Served) × Makes mid link one true after new
-    → (served : List Served) × MakesEach before old served after new
-makes-more before old mid link after new (served, each) (one, more) =
-    (served ++ one ∷ [], each-more before old served mid link one after new each more)
+    → (more : List Served) × (length more ≡ length served + 1) × MakesEach before old more after new
+makes-more before old mid link after new served each (one, more) = (
+  served ++ one ∷ [],
+  length-append served (one ∷ []),
+  each-more before old served mid link one after new each more,
+)
 
 -- and the end
-pub serves : (before : Disk) (old : Option Link) (mid : Disk) (link : Option Link) (end : KeepEnd) (after : Disk)
-    (new : Option Link) → (served : List Served) × MakesEach before old served mid link
-    → EndsWith end mid link after new → Serves before old end after new
-serves before old mid link end after new (served, each) ends =
-    record { served = served; between = mid; link = link; makes = each; ends = ends }
-
-pub serves-all : (before : Disk) (old : Option Link) (mid : Disk) (link : Option Link)
-    → (served : List Served) × MakesEach before old served mid link → Serves before old Gone mid link
-serves-all before old mid link each = serves before old mid link Gone mid link each (refl, ([], takes-none link))
+pub serves : (before : Disk) (old : Line) (mid : Disk) (link : Option Link) (end : KeepEnd) (after : Disk)
+    (new : Option Link) (served : List Served) → MakesEach before old.link served mid link
+    → EndsWith end mid link after new → (old.steady ≡ true → end ≡ Gone → 2 ^ 64 - 1 ≤ length served)
+    → Serves before old end after new
+serves before old mid link end after new served each ends gone =
+    record { served = served; between = mid; link = link; makes = each; ends = ends; gone = gone }
 
 pub greets : (old new : Option Link) (octets : List ℕ) (sectors count : ℕ) (whole : Bool)
     → octets ≡ greeting_octets sectors → sectors ≡ count → GivesOctets old new octets whole
@@ -100,9 +102,9 @@ greets old new octets sectors count whole is same gives =
     (subst (λ (o : List ℕ). GivesOctets old new o whole) is gives)
 
 -- a client that was greeted is served
-pub keeps : (before : Disk) (old greeted : Option Link) (end : KeepEnd) (after : Disk) (new : Option Link)
-    → GivesOctets old greeted (greeting_octets before.sectors) true → Serves before greeted end after new
-    → Keeps before old end after new
+pub keeps : (before : Disk) (old : Line) (greeted : Option Link) (end : KeepEnd) (after : Disk) (new : Option Link)
+    → GivesOctets old.link greeted (greeting_octets before.sectors) true
+    → Serves before (record old { link = greeted }) end after new → Keeps before old end after new
 keeps before old greeted Ungreeted after new gives is = absurd (is.ends.1)
 keeps before old greeted Ended after new gives is = (greeted, gives, is)
 keeps before old greeted Gone after new gives is = (greeted, gives, is)

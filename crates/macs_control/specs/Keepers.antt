@@ -1,13 +1,13 @@
 -- What a keeper does for its client: a greeting, and then for each request, one after another, one call of the disk and
 -- one answer.
-use Rattle.std.specs.Prelude.{◌≡◌, ◌<◌, ◌++◌, ⊤, ℕ, Bool, true, false, List, [], ◌∷◌, length, Option, Some, None}
+use Rattle.std.specs.Prelude.{◌≡◌, ◌<◌, ◌≤◌, ◌-◌, ◌^◌, ◌++◌, ⊤, ℕ, Bool, true, false, List, [], ◌∷◌, length, Option, Some, None}
 use Rattle.std.specs.Prelude.{Result, Ok, Err}
 use Rattle.macs_disk.specs.Disk.{Disk}
 use Rattle.macs_disk.specs.DeviceCalls.{IsCall, IsMade, IsWithin}
 use Rattle.macs_disk.specs.Messages.{answer_octets, answer_to, greeting_octets, request_of}
 use Rattle.macs_disk.specs.declared.device_call.DeviceCall.{DeviceCall}
 use Rattle.macs_disk.specs.declared.disk.DeviceFault.{DeviceFault}
-use Rattle.macs_control.specs.Links.{GivesOctets, Link}
+use Rattle.macs_control.specs.Links.{GivesOctets, Line, Link}
 use Rattle.macs_control.specs.declared.keeping.cut.Cut.{Cut}
 use Rattle.macs_control.specs.declared.keeping.cut.Cut.TheVariants as cut
 use Rattle.macs_control.specs.declared.keeping.keeper.KeepEnd.{KeepEnd}
@@ -100,16 +100,20 @@ abbrev pub EndsWith : KeepEnd → Disk → Option Link → Disk → Option Link 
 EndsWith Unanswered before old after new = (served : Served) × Makes before old served false after new
 EndsWith end before old after new = (after ≡ before) × AsksNot before.sectors end old new
 
--- after a greeting: calls for requests, and the end
-pub record Serves (before : Disk) (old : Option Link) (end : KeepEnd) (after : Disk) (new : Option Link) : Type 0 where
+-- After a greeting: calls for requests, and the end. A connection that is known to be steady fails after 2^64 - 1
+-- requests and not before
+pub record Serves (before : Disk) (old : Line) (end : KeepEnd) (after : Disk) (new : Option Link) : Type 0 where
   pub served : List Served
   pub between : Disk
   pub link : Option Link
-  pub makes : MakesEach before old served between link
+  pub makes : MakesEach before old.link served between link
   pub ends : EndsWith end between link after new
+  pub gone : old.steady ≡ true → end ≡ Gone → 2 ^ 64 - 1 ≤ length served
 
 -- the whole work of a keeper for a client
-abbrev pub Keeps : Disk → Option Link → KeepEnd → Disk → Option Link → Type 0
-Keeps before old Ungreeted after new = (after ≡ before) × GivesOctets old new (greeting_octets before.sectors) false
+abbrev pub Keeps : Disk → Line → KeepEnd → Disk → Option Link → Type 0
+Keeps before old Ungreeted after new = (after ≡ before)
+    × GivesOctets old.link new (greeting_octets before.sectors) false
 Keeps before old end after new = (greeted : Option Link)
-    × GivesOctets old greeted (greeting_octets before.sectors) true × Serves before greeted end after new
+    × GivesOctets old.link greeted (greeting_octets before.sectors) true
+    × Serves before (record old { link = greeted }) end after new

@@ -5,7 +5,7 @@ use Rattle.macs_disk.specs.Disk.{Disk}
 use Rattle.macs_disk.specs.Messages.{greeting_octets}
 use Rattle.macs_disk.specs.States.{settled_state, zero_sector}
 use Rattle.macs_control.specs.Keepers.{IsCut, Takes}
-use Rattle.macs_control.specs.Links.{Link}
+use Rattle.macs_control.specs.Links.{Line, Link}
 use Rattle.macs_control.specs.declared.keeping.cut.Cut.TheVariants as cut
 
 -- what a client knows of a disk: how many sectors it has; the calls that were answered, and the failures among them;
@@ -64,15 +64,6 @@ GreetsNot link steady = (left : Option Link) × (
 
 -- ---- where a keeper is found
 
--- what is known of a connection to a keeper: what it carries, and whether it is steady
-pub record KeeperLine : Type 0 where
-  pub link : Option Link
-  pub steady : Bool
-
--- the same of a connection of any kind
-abbrev pub line_of : {C : Type 0} → (C → Option Link) → (C → Bool) → C → KeeperLine
-line_of link steady connection = record { link = link connection; steady = steady connection }
-
 -- a connection is asked for to the keeper with this name, and comes or does not
 pub data KeeperCall : Type 0 where
-  Connects : (path : List ℕ) → (line : Option KeeperLine) → KeeperCall
+  Connects : (path : List ℕ) → (line : Option Line) → KeeperCall

@@ -14,6 +14,15 @@ pub record Link : Type 0 where
   pub given : List ℕ
   pub over : Bool
 
+-- what is known about a connection: what it carries, and whether it is known to be steady
+pub record Line : Type 0 where
+  pub link : Option Link
+  pub steady : Bool
+
+-- the same about a connection of any kind
+abbrev pub line_of : {C : Type 0} → (C → Option Link) → (C → Bool) → C → Line
+line_of link steady connection = record { link = link connection; steady = steady connection }
+
 -- no more octets are returned than fit
 abbrev pub IsAtMost : Taken → ℕ → Type 0
 IsAtMost (Octets count) room = count ≤ room

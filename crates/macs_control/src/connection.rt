@@ -40,7 +40,8 @@ pub trait Connection: Drop {
 
     /// Sends octets, and returns whether all of them were taken at once.
     fn try_send(&mut self, octets: &[u8]) -> bool
-        ensures given { GivesOctets (link self.old) (link self.new) octets.now result };
+        ensures given { GivesOctets (link self.old) (link self.new) octets.now result }
+        ensures steady { steady self.new ≡ steady self.old };
 }
 
 /// A non-blocking socket: what a client does not take at once is not sent to it.

@@ -1,6 +1,6 @@
 //! The control socket of a relay, and everything that an attended relay sleeps on.
 
-ghost use Rattle.std.specs.Prelude.{◌≡◌, IfOk, is_some, slice_get};
+ghost use Rattle.std.specs.Prelude.{◌≡◌, true, IfOk, IsErr, is_some, slice_get};
 ghost use Rattle.macs_control.specs.ControlSockets.{HearsAll, HearsIf, gives_place, socket_of};
 ghost use Rattle.macs_control.specs.Newcomers.{Greets, GreetsOne, LeavesNobody};
 ghost use Rattle.macs_control.specs.Places.{places_of};
@@ -142,7 +142,8 @@ fn listener_at<T: Files + Net>(
     rt: &T,
     path: Option<&str>,
 ) -> Result<Option<UnixListener>, ControlFault>
-    ensures { IfOk result (λ listener. is_some listener ≡ is_some path.entry) }
+    ensures listener { IfOk result (λ listener. is_some listener ≡ is_some path.entry) }
+    ensures named { IsErr result → is_some path.entry ≡ true }
 {
     let Some(path) = path else {
         return Ok(None);
@@ -154,12 +155,12 @@ fn listener_at<T: Files + Net>(
 }
 
 impl<'a, T: Files + Net + Clock> ControlSocket<'a, T> {
-    ghost use Rattle.std.specs.Prelude.{IfOk, is_some};
+    ghost use Rattle.std.specs.Prelude.{◌≡◌, true, IfErr, IfOk, is_some};
     ghost use Rattle.macs_control.specs.ControlSockets.{IsUnused};
 
     /// Binds the control socket at `path`; without a path there are no clients. A sleep on it and
-    /// on these sockets ends after `limit` milliseconds, at most 1,000. Fails with `Memory`, then
-    /// `Bind`.
+    /// on these sockets ends after `limit` milliseconds, at most 1,000. Fails with `Memory`, then,
+    /// if there is a path, with `Bind`.
     pub fn bind(
         rt: &'a T,
         alloc: Global,
@@ -167,7 +168,10 @@ impl<'a, T: Files + Net + Clock> ControlSocket<'a, T> {
         sockets: Sockets,
         limit: u16,
     ) -> Result<ControlSocket<'a, T>, ControlFault>
-        ensures { IfOk result (λ socket. IsUnused (is_some path.entry) sockets limit socket) }
+        ensures unused { IfOk result
+            (λ socket. IsUnused (is_some path.entry) sockets limit socket) }
+        ensures named { IfErr result
+            (λ fault. fault ≡ ControlFault.Bind → is_some path.entry ≡ true) }
     {
         let seats = Seats::new(alloc)?;
         let door = listener_at(rt, path)?;

@@ -178,6 +178,12 @@ address-handed Holds order before after error failure was is same exactly fault 
 abbrev IsOfDesk : Failure → Type 0
 IsOfDesk failure = (failure ≡ failures.Memory) ⊎ (failure ≡ failures.Control)
 
+-- by what it says of a failure
+pub lacks-desk : (failure : Failure) (P : Type 0)
+    → (failure ≡ failures.Memory) ⊎ ((failure ≡ failures.Control) × P) → IsOfDesk failure
+lacks-desk failure P (inl memory) = inl memory
+lacks-desk failure P (inr (control, named)) = inr control
+
 desk-behind : (failure : Failure) → IsOfDesk failure → IsAfterAddresses failure
 desk-behind failure (inl memory) = subst IsAfterAddresses (sym memory) tt
 desk-behind failure (inr control) = subst IsAfterAddresses (sym control) tt

@@ -7,7 +7,7 @@ use Rattle.macs_disk.specs.declared.file.FileDisk.{FileDisk}
 use Rattle.macs_disk.specs.declared.file_fault.FileFault.{FileFault}
 use Rattle.macs_control.specs.Calls.{with_calls}
 use Rattle.macs_control.specs.Keepers.{Keeps}
-use Rattle.macs_control.specs.Links.{Link}
+use Rattle.macs_control.specs.Links.{Line, Link}
 use Rattle.macs_control.specs.declared.keeping.keeper.KeepEnd.{KeepEnd}
 use Rattle.macs_control.specs.declared.keeping.keeper.KeepEnd.TheVariants.{Ungreeted, Ended, Gone, Malformed, Outside}
 use Rattle.macs_control.specs.declared.keeping.keeper.KeepEnd.TheVariants.{Unanswered}
@@ -21,15 +21,15 @@ use Rattle.macs_cli.specs.declared.status.Status.TheVariants.{Done}
 -- ---- the socket
 
 -- a call at the socket of a keeper, and its result: it is bound to a name; the program's parent is notified; a client is
--- waited for, and what its connection carries is known or not; it is closed, and the name removed
+-- waited for, whose connection is known or not; it is closed, and the name removed
 pub data EntranceCall : Type 0 where
   Binds : (path : List ℕ) → (done : Bool) → EntranceCall
   Notifies : EntranceCall
-  LetsIn : (client : Option (Option Link)) → EntranceCall
+  LetsIn : (client : Option Line) → EntranceCall
   Closes : (path : List ℕ) → EntranceCall
 
 -- the calls that let one client in: once it has come, nobody else can
-abbrev pub one_let_in : List ℕ → Option Link → List EntranceCall
+abbrev pub one_let_in : List ℕ → Line → List EntranceCall
 one_let_in path client = Binds path true ∷ Notifies ∷ LetsIn (Some client) ∷ Closes path ∷ []
 
 -- those that let nobody in: the name cannot be bound, or nobody can be waited for
@@ -52,7 +52,7 @@ outcome_of Outside = Err Control
 -- one client is let in, and a disk is kept for it to this end
 pub record KeepsOne (path : List ℕ) (asked : Option (List EntranceCall)) (before : Disk) (end : KeepEnd)
     (now : Option (List EntranceCall)) (after : Disk) : Type 0 where
-  pub client : Option Link
+  pub client : Line
   pub left : Option Link
   pub let_in : now ≡ with_calls asked (one_let_in path client)
   pub keeps : Keeps before client end after left
@@ -70,7 +70,7 @@ KeepsFor path asked before result now after =
 pub record IsKeptIn {F : Type 0} (file : F → FileState) (end : KeepEnd) : Type 0 where
   pub disk : FileDisk F
   pub left : FileDisk F
-  pub old : Option Link
+  pub old : Line
   pub new : Option Link
   pub is_disk : IsDiskIn file disk
   pub keeps : Keeps (disk_in_file file disk) old end (disk_in_file file left) new

@@ -3,8 +3,8 @@ use Rattle.std.specs.Prelude.{◌≡◌, ◌⊎◌, ℕ, ℤ, Bool, List, [], �
 use Rattle.std.specs.Borrow.{Bor}
 use Rattle.macs_disk.specs.Files.{FileState}
 use Rattle.macs_control.specs.Calls.{with_calls}
-use Rattle.macs_control.specs.KeptDisks.{Connects, GreetsNot, IsOpened, KeeperCall, KeeperLine, KeptDiskValue}
-use Rattle.macs_control.specs.KeptDisks.{kept_disk, line_of}
+use Rattle.macs_control.specs.KeptDisks.{Connects, GreetsNot, IsOpened, KeeperCall, KeptDiskValue, kept_disk}
+use Rattle.macs_control.specs.Links.{Line, line_of}
 use Rattle.macs_control.specs.Links.{Link}
 use Rattle.macs_edge.specs.Relaying.{empty_lane, relay_of}
 use Rattle.macs_edge.specs.Wires.{WireState}
@@ -33,7 +33,7 @@ pub record IsKeptAt {C : Type 0} (link : C → Option Link) (steady : C → Bool
 -- one was asked for, and did not come; or it came, and no greeting did
 abbrev pub IsNotKept : List ℕ → Option (List KeeperCall) → Option (List KeeperCall) → Type 0
 IsNotKept path asked now = (now ≡ with_calls asked (Connects path None ∷ []))
-    ⊎ ((line : KeeperLine) × (now ≡ with_calls asked (Connects path (Some line) ∷ []))
+    ⊎ ((line : Line) × (now ≡ with_calls asked (Connects path (Some line) ∷ []))
     × GreetsNot line.link line.steady)
 
 -- ---- the relay

@@ -1,9 +1,10 @@
 //! The desk that attends a relay, and what it consists of.
 
-ghost use Rattle.std.specs.Prelude.{◌≡◌, ◌⊎◌, IfErr, IfOk, is_some};
+ghost use Rattle.std.specs.Prelude.{◌≡◌, ◌⊎◌, true, IfErr, IfOk, is_some};
 ghost use Rattle.macs_control.specs.ControlSockets.{IsUnused};
 ghost use Rattle.macs_control.specs.MetricsFiles.{IsPlaceAt};
 ghost use Rattle.macs_program.specs.Attendants.{IsNewDesk, sleep_of};
+ghost use Rattle.macs_program.specs.Relaying.{is_attended};
 
 use crate::build::this_program;
 use crate::counters_name::refuse_other_file;
@@ -34,8 +35,8 @@ fn clients_for<'a, T: Files + Net + Clock>(
 ) -> Result<ControlSocket<'a, T>, Failure>
     ensures unused { IfOk result
         (IsUnused (is_some running.now.control) wires (sleep_of running.now.pace)) }
-    ensures failed { IfErr result
-        (λ failure. (failure ≡ Failure.Memory) ⊎ (failure ≡ Failure.Control)) }
+    ensures failed { IfErr result (λ failure. (failure ≡ Failure.Memory)
+        ⊎ ((failure ≡ Failure.Control) × (is_some running.now.control ≡ true))) }
 {
     let limit = sleep_of(running.pace);
     let clients = ControlSocket::bind(rt, alloc, running.control, wires, limit)?;
@@ -55,8 +56,8 @@ fn desk_over<'a, T: Files + Net + Clock>(
 ) -> Result<SystemDesk<'a, T>, Failure>
     requires { IsPlaceAt running.now.metrics metrics }
     ensures new { IfOk result (IsNewDesk disk.now running.now wires) }
-    ensures failed { IfErr result
-        (λ failure. (failure ≡ Failure.Memory) ⊎ (failure ≡ Failure.Control)) }
+    ensures failed { IfErr result (λ failure. (failure ≡ Failure.Memory)
+        ⊎ ((failure ≡ Failure.Control) × (is_some running.now.control ≡ true))) }
 {
     let program = this_program(rt, alloc)?;
     let paper = report_paper(alloc)?;
@@ -80,8 +81,8 @@ fn place_for<'a, T: Files + Clock>(
     path: Option<&'a str>,
 ) -> Result<MetricsPlace<'a, T>, Failure>
     ensures place { IfOk result (IsPlaceAt path.entry) }
-    ensures failed { IfErr result
-        (λ failure. (failure ≡ Failure.Memory) ⊎ (failure ≡ Failure.Control)) }
+    ensures failed { IfErr result (λ failure. (failure ≡ Failure.Memory)
+        ⊎ ((failure ≡ Failure.Control) × (is_some path.entry ≡ true))) }
 {
     if let Some(name) = path {
         refuse_other_file(rt, alloc, name)?;
@@ -102,8 +103,8 @@ pub fn desk_for<'a, T: Files + Net + Clock>(
     wires: Sockets,
 ) -> Result<SystemDesk<'a, T>, Failure>
     ensures new { IfOk result (IsNewDesk disk.now running.now wires) }
-    ensures failed { IfErr result
-        (λ failure. (failure ≡ Failure.Memory) ⊎ (failure ≡ Failure.Control)) }
+    ensures failed { IfErr result (λ failure. (failure ≡ Failure.Memory)
+        ⊎ ((failure ≡ Failure.Control) × (is_attended running.now ≡ true))) }
 {
     let metrics = place_for(rt, alloc, running.metrics)?;
     desk_over(rt, alloc, disk, running, wires, metrics)

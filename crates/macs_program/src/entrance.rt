@@ -14,6 +14,7 @@ use std::rt::{Env, Files};
 pub trait Entrance {
     ghost use Rattle.std.specs.Prelude.{◌≡◌, [], ◌∷◌, List, Option, None, option_map};
     ghost use Rattle.macs_control.specs.Calls.{with_calls};
+    ghost use Rattle.macs_control.specs.Links.{line_of};
     ghost use Rattle.macs_program.specs.Keeping.{Binds, Closes, EntranceCall, LetsIn, Notifies};
 
     /// The connection of a client.
@@ -33,7 +34,8 @@ pub trait Entrance {
     /// Lets a client in, and waits for it as long as it takes. `None` if nobody can be waited for.
     fn let_in(&mut self) -> Option<Self::Client>
         ensures { asked self.new
-            ≡ with_calls (asked self.old) (LetsIn (option_map Self.Client.link result) ∷ []) };
+            ≡ with_calls (asked self.old) (LetsIn
+            (option_map (line_of Self.Client.link Self.Client.steady) result) ∷ []) };
 
     /// Removes the name, and stops listening: whoever waits there is refused.
     fn close(&mut self, path: &str)

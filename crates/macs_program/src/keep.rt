@@ -2,6 +2,7 @@
 
 ghost use Rattle.std.specs.Prelude.{◌≡◌, ◌≢◌, ◌⊎◌, IfErr, IfNone, IfOk, IfSome};
 ghost use Rattle.macs_control.specs.Calls.{with_calls};
+ghost use Rattle.macs_control.specs.Links.{line_of};
 ghost use Rattle.macs_program.specs.Keeping.{FailsToKeep, KeepsFor, KeepsIn, LetsNobodyIn};
 ghost use Rattle.macs_program.specs.Keeping.{one_let_in, outcome_of};
 
@@ -29,7 +30,8 @@ fn outcome(end: KeepEnd) -> Result<Status, Failure>
 /// bound, or nobody can be waited for.
 fn let_one_in<E: Entrance>(entrance: &mut E, path: &str) -> Option<E::Client>
     ensures came { IfSome result (λ client. E.asked entrance.new
-        ≡ with_calls (E.asked entrance.old) (one_let_in path.now (E.Client.link client))) }
+        ≡ with_calls (E.asked entrance.old) (one_let_in path.now
+        (line_of E.Client.link E.Client.steady client))) }
     ensures nobody { IfNone result
         (LetsNobodyIn path.now (E.asked entrance.old) (E.asked entrance.new)) }
 {

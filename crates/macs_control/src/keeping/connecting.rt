@@ -12,7 +12,8 @@ use std::os::unix::net::UnixStream;
 pub trait Keepers {
     ghost use Rattle.std.specs.Prelude.{◌≡◌, [], ◌∷◌, List, Option, None, option_map};
     ghost use Rattle.macs_control.specs.Calls.{with_calls};
-    ghost use Rattle.macs_control.specs.KeptDisks.{Connects, KeeperCall, line_of};
+    ghost use Rattle.macs_control.specs.KeptDisks.{Connects, KeeperCall};
+    ghost use Rattle.macs_control.specs.Links.{line_of};
 
     /// The connection to a keeper.
     type Connection: Waits + Watched;

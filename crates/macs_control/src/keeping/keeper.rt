@@ -1,11 +1,11 @@
 //! What a keeper does for its client.
 
-ghost use Rattle.std.specs.Prelude.{◌≡◌, true, IfErr, IfOk, OnOk};
+ghost use Rattle.std.specs.Prelude.{◌≡◌, ◌≢◌, true, IfErr, IfOk, OnOk};
 ghost use Rattle.macs_disk.specs.DeviceCalls.{IsWithin};
 ghost use Rattle.macs_disk.specs.Messages.{greeting_octets, request_of};
 ghost use Rattle.macs_control.specs.Keepers.{EndsWith, Keeps, Makes, Served, Serves, Takes};
 ghost use Rattle.macs_control.specs.Keepers.{AsksNot, MakesOne, end_of_cut};
-ghost use Rattle.macs_control.specs.Links.{GivesOctets};
+ghost use Rattle.macs_control.specs.Links.{GivesOctets, line_of};
 
 use crate::connection::Connection;
 use crate::keeping::cut::Cut;
@@ -49,6 +49,8 @@ fn next_call<C: Waits>(sectors: u64, client: &mut C) -> Result<DeviceCall, KeepE
         × Takes (C.link client.old) (request_of call) (C.link client.new)) }
     ensures end { IfErr result (λ end. AsksNot sectors end (C.link client.old)
         (C.link client.new)) }
+    ensures steady { C.steady client.old ≡ true → IfErr result (λ end. end ≢ KeepEnd.Gone) }
+    ensures still { C.steady client.old ≡ true → OnOk result (C.steady client.new ≡ true) }
 {
     let mut octets: ArrayVec<u8, REQUEST> = match take_whole(client) {
         Ok(octets) => octets,
@@ -68,8 +70,9 @@ fn next_call<C: Waits>(sectors: u64, client: &mut C) -> Result<DeviceCall, KeepE
 /// Makes a call, and sends its answer. Returns whether all of it was sent.
 fn make<D: SectorDisk, C: Connection>(disk: &mut D, client: &mut C, call: &DeviceCall) -> bool
     requires { IsWithin (D.disk disk.old).sectors call.now }
-    ensures { MakesOne (D.disk disk.old) (C.link client.old) call.now result (D.disk disk.new)
-        (C.link client.new) }
+    ensures made { MakesOne (D.disk disk.old) (C.link client.old) call.now result
+        (D.disk disk.new) (C.link client.new) }
+    ensures still { C.steady client.new ≡ C.steady client.old }
 {
     let mut read = [0; 512];
     let end = call.make(disk, &mut read);
@@ -86,6 +89,8 @@ fn serve_one<D: SectorDisk, C: Waits>(disk: &mut D, client: &mut C) -> Result<()
         served true (D.disk disk.new) (C.link client.new)) }
     ensures end { IfErr result (λ end. EndsWith end (D.disk disk.old) (C.link client.old)
         (D.disk disk.new) (C.link client.new)) }
+    ensures steady { C.steady client.old ≡ true → IfErr result (λ end. end ≢ KeepEnd.Gone) }
+    ensures still { C.steady client.old ≡ true → OnOk result (C.steady client.new ≡ true) }
 {
     let call = match next_call(disk.sectors(), client) {
         Ok(call) => call,
@@ -100,8 +105,8 @@ fn serve_one<D: SectorDisk, C: Waits>(disk: &mut D, client: &mut C) -> Result<()
 
 /// Serves requests until one is the last.
 fn serve<D: SectorDisk, C: Waits>(disk: &mut D, client: &mut C) -> KeepEnd
-    ensures { Serves (D.disk disk.old) (C.link client.old) result (D.disk disk.new)
-        (C.link client.new) }
+    ensures { Serves (D.disk disk.old) (line_of C.link C.steady client.old) result
+        (D.disk disk.new) (C.link client.new) }
 {
     for _request in 0..u64::MAX {
         match serve_one(disk, client) {
@@ -114,8 +119,9 @@ fn serve<D: SectorDisk, C: Waits>(disk: &mut D, client: &mut C) -> KeepEnd
 
 /// Greets a client. Returns whether all of the greeting was sent.
 fn greet<D: SectorDisk, C: Connection>(disk: &D, client: &mut C) -> bool
-    ensures { GivesOctets (C.link client.old) (C.link client.new)
+    ensures given { GivesOctets (C.link client.old) (C.link client.new)
         (greeting_octets (D.disk disk.now).sectors) result }
+    ensures still { C.steady client.new ≡ C.steady client.old }
 {
     let greeting = Greeting {
         sectors: disk.sectors(),
@@ -127,8 +133,8 @@ fn greet<D: SectorDisk, C: Connection>(disk: &D, client: &mut C) -> bool
 /// it asks for, one after another, and sends one answer to each. Returns what ended that. No other
 /// call is made.
 pub fn keep_for<D: SectorDisk, C: Waits>(disk: &mut D, client: &mut C) -> KeepEnd
-    ensures { Keeps (D.disk disk.old) (C.link client.old) result (D.disk disk.new)
-        (C.link client.new) }
+    ensures { Keeps (D.disk disk.old) (line_of C.link C.steady client.old) result
+        (D.disk disk.new) (C.link client.new) }
 {
     if greet(disk, client) {
         serve(disk, client)

@@ -73,6 +73,7 @@ pub(crate) fn take_whole<C: Waits, const N: usize>(from: &mut C) -> Result<Array
         × Takes (C.link from.old) octets.items (C.link from.new)) }
     ensures cut { IfErr result (λ cut. IsCut N (C.link from.old) cut (C.link from.new)) }
     ensures steady { C.steady from.old ≡ true → IfErr result (λ cut. cut ≡ Cut.Ended) }
+    ensures still { C.steady from.old ≡ true → OnOk result (C.steady from.new ≡ true) }
 {
     let mut held = nothing_held();
     for _look in 0..u64::MAX {

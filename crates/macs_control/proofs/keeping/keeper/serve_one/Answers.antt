@@ -7,10 +7,10 @@ pub returns-then-make-clause-served : goal.returns-then-make-clause-served
 returns-then-make-clause-served g c =
     makes _ _ _ c.in-Ok.call true _ _ c.in-Ok.ensures.call.1
     (subst (λ (n : ℕ). IsWithin n c.in-Ok.call) c.sectors.ensures c.in-Ok.ensures.call.0)
-    (rw c.if-make.true at c.make.ensures)
+    (rw c.if-make.true at c.make.ensures.made)
 
 pub returns-else-make-clause-end : goal.returns-else-make-clause-end
 returns-else-make-clause-end g c =
     makes _ _ _ c.in-Ok.call false _ _ c.in-Ok.ensures.call.1
     (subst (λ (n : ℕ). IsWithin n c.in-Ok.call) c.sectors.ensures c.in-Ok.ensures.call.0)
-    (rw c.if-make.false at c.make.ensures)
+    (rw c.if-make.false at c.make.ensures.made)

@@ -25,6 +25,10 @@ pub returns-then-is_whole-clause-whole : goal.returns-then-is_whole-clause-whole
 returns-then-is_whole-clause-whole g c =
     (c.is_whole.ensures.whole c.if-is_whole.true, c.in-Ok.ensures.more _ c.loop-look.invariant.takes)
 
+pub returns-then-is_whole-clause-still : goal.returns-then-is_whole-clause-still
+returns-then-is_whole-clause-still g c = λ is.
+    (c.in-Ok.ensures.steady (c.loop-look.invariant.steady is).0 c.loop-look.invariant.few).1
+
 pub loop-look-preserved : goal.loop-look-preserved
 loop-look-preserved g c = record {
   few = c.is_whole.ensures.part c.if-is_whole.false;

@@ -1,6 +1,6 @@
 use Rattle.std.proofs.Common.{refl, true}
 use Rattle.std.proofs.lemmas.Result.{err_from_is_err_and}
-use Rattle.macs_program.proofs.Relayed.{frames-relayed, no-desk}
+use Rattle.macs_program.proofs.Relayed.{frames-relayed, lacks-desk, no-desk}
 use Rattle.macs_program.specs.Relaying.{course_with}
 use Rattle.macs_program.proofs.relay.RelayWires.attend.Goals as goal
 
@@ -8,7 +8,7 @@ pub returns-in_err-desk : goal.returns-in_err-desk
 returns-in_err-desk g c =
     let p = err_from_is_err_and c.from_residual.result c.from_residual.ensures.1 in
     no-desk _ _ _ (course_with g.row.T.Denot true c.args.self.disk.now c.args.self.running) _ _ refl
-    c.in_err-desk.field-0.0 p.0 c.from_residual.result p.1 p.2 c.in_err-desk.ensures.failed
+    c.in_err-desk.field-0.0 p.0 c.from_residual.result p.1 p.2 (lacks-desk _ _ c.in_err-desk.ensures.failed)
 
 pub returns : goal.returns
 returns g c =
