@@ -11,6 +11,10 @@ that is in no group or in two, and groups that use each other in a circle, are a
 import os
 import sys
 
+# Nothing is left in the checkout.
+sys.dont_write_bytecode = True
+from drawing import Page
+
 TOP = os.path.dirname(os.path.dirname(os.path.realpath(__file__)))
 ROOTS = ["macsecd", "macs_c", "macs_theorem"]
 # The crates of each group, without `macs_`.
@@ -24,13 +28,6 @@ GROUPS = {
 }
 # In pixels: a box, from row to row, between two boxes, and the margin.
 WIDE, HIGH, ROW, GAP, MARGIN = 330, 58, 96, 24, 12
-STYLE = """<style>
-.page { fill: #fff } .box { fill: #dce9f7; stroke: #1a5fb4 } .name { fill: #222; font-weight: bold } .crates { fill: #222; font-size: 13px }
-.arrow { stroke: #5e6a75; stroke-width: 1.5; fill: none } .head { fill: #5e6a75 }
-@media (prefers-color-scheme: dark) {
-.page { fill: #0d1117 } .box { fill: #1b2a3d; stroke: #6ea8e6 } .name, .crates { fill: #e6edf3 } .arrow { stroke: #9aa7b4 } .head { fill: #9aa7b4 }
-}
-</style>"""
 
 
 def reached(used, name, above=()):
@@ -89,30 +86,21 @@ def drawn(links):
     high = len(table) * ROW - (ROW - HIGH) + 2 * MARGIN
     left = {it: (wide - len(row) * (WIDE + GAP) + GAP) // 2 + i * (WIDE + GAP) for row in table for i, it in enumerate(row)}
     top = {it: MARGIN + at * ROW for at, row in enumerate(table) for it in row}
-    out = [
-        f'<svg xmlns="http://www.w3.org/2000/svg" viewBox="0 0 {wide} {high}" width="{wide}" font-family="sans-serif" font-size="14">',
-        "<title>Six groups of crates, each above those that it uses</title>",
-        STYLE,
-        '<marker id="end" viewBox="0 0 8 8" refX="8" refY="4" markerWidth="8" markerHeight="8" orient="auto">',
-        '<path class="head" d="M0 0 L8 4 L0 8 Z"/></marker>',
-        f'<rect class="page" width="{wide}" height="{high}" rx="8"/>',
-    ]
+    page = Page("Six groups of crates, each above those that it uses", wide, high)
     for a, words in links.items():
         for b in words:
-            ends = f"M{left[a] + WIDE // 2} {top[a] + HIGH} L{left[b] + WIDE // 2} {top[b]}"
-            out.append(f'<path class="arrow" d="{ends}" marker-end="url(#end)"/>')
+            page.arrow((left[a] + WIDE // 2, top[a] + HIGH), (left[b] + WIDE // 2, top[b]))
     for title, words in GROUPS.items():
         middle = left[title] + WIDE // 2
-        out.append(f'<rect class="box" x="{left[title]}" y="{top[title]}" width="{WIDE}" height="{HIGH}" rx="5"/>')
-        out.append(f'<text class="name" x="{middle}" y="{top[title] + 24}" text-anchor="middle">{title}</text>')
-        out.append(f'<text class="crates" x="{middle}" y="{top[title] + 45}" text-anchor="middle">{", ".join(words.split())}</text>')
-    return "\n".join([*out, "</svg>\n"])
+        page.box(left[title], top[title], WIDE, HIGH)
+        page.text(middle, top[title] + 24, title, "name")
+        page.text(middle, top[title] + 45, ", ".join(words.split()), "small")
+    return page
 
 
 def main():
     used = crates()
-    with open(sys.argv[1] if len(sys.argv) > 1 else os.path.join(TOP, "docs/layers.svg"), "w") as file:
-        file.write(drawn(arrows(used, groups(used))))
+    drawn(arrows(used, groups(used))).write(sys.argv[1] if len(sys.argv) > 1 else os.path.join(TOP, "docs/layers.svg"))
 
 
 main()

@@ -41,8 +41,9 @@ def installed(page):
 
 
 def document(name):
+    """A document without its pictures."""
     with open(f"{TOP}/{name}", encoding="utf-8") as text:
-        return installed(text.read())
+        return installed(re.sub(r"^!\[.*\n\n", "", text.read(), flags=re.M))
 
 
 # The key in an example that is installed: no command takes it.
