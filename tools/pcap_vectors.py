@@ -1,10 +1,10 @@
 #!/usr/bin/python3
-"""Prints crates/macs_edge_tests/src/tests/capture_files/vectors.rt: one capture in both orders of octets and both fractions, as scapy writes it.
+"""Prints crates/macs_frame_tests/src/tests/capture_files/vectors.rt: one capture in both orders of octets and both fractions, as scapy writes it.
 
 Two frames of 14 and 17 octets, captured at 1234567890.123456(789) and 4294967295.999999(999). Run on a machine with Debian's
 python3-scapy:
 
-    /usr/bin/python3 tools/pcap_vectors.py > crates/macs_edge_tests/src/tests/capture_files/vectors.rt
+    /usr/bin/python3 tools/pcap_vectors.py > crates/macs_frame_tests/src/tests/capture_files/vectors.rt
 """
 
 import io
