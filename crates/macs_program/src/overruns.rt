@@ -1,8 +1,8 @@
 //! How many datagrams the system dropped before a wire could take them.
 
-ghost use Rattle.std.specs.Prelude.{◌≡◌, IfOk, IfSome, string_bytes};
-ghost use Rattle.macs_program.specs.Overruns.{HasDigits, IsBehind, IsLastColumn, SaysDropped};
-ghost use Rattle.macs_program.specs.Overruns.{mark_of};
+ghost use Rattle.std.specs.Prelude.{◌≡◌, None, IfOk, IfSome, string_bytes};
+ghost use Rattle.macs_program.specs.Overruns.{HasDigits, IsBehind, IsEndless, IsLastColumn, Lacks};
+ghost use Rattle.macs_program.specs.Overruns.{LacksDigits, LacksDropped, SaysDropped, mark_of};
 
 use std::alloc::{AllocError, Global};
 use std::fs;
@@ -27,7 +27,8 @@ fn mark_of(alloc: Global, inode: u64) -> Result<String, AllocError>
 
 /// What follows the first occurrence of a mark.
 fn behind<'a>(text: &'a str, mark: &str) -> Option<&'a str>
-    ensures { IfSome result (λ rest. IsBehind mark.now text.now rest.now) }
+    ensures found { IfSome result (λ rest. IsBehind mark.now text.now rest.now) }
+    ensures lacks { result ≡ None → Lacks mark.now text.now }
 {
     match text.split_once(mark) {
         Some((_, rest)) => Some(rest),
@@ -37,7 +38,8 @@ fn behind<'a>(text: &'a str, mark: &str) -> Option<&'a str>
 
 /// The last column of a line: blanks may follow.
 fn last_column(text: &str) -> Option<&str>
-    ensures { IfSome result (λ column. IsLastColumn text.now column.now) }
+    ensures found { IfSome result (λ column. IsLastColumn text.now column.now) }
+    ensures lacks { result ≡ None → IsEndless text.now }
 {
     let Some((line, _)) = text.split_once('\n') else {
         return None;
@@ -51,7 +53,8 @@ fn last_column(text: &str) -> Option<&str>
 /// The digits of the last column of the line with this mark: after it come the references, the
 /// pointer, and these digits.
 fn digits_in<'a>(sockets: &'a str, mark: &str) -> Option<&'a str>
-    ensures { IfSome result (λ digits. HasDigits mark.now sockets.now digits.now) }
+    ensures found { IfSome result (λ digits. HasDigits mark.now sockets.now digits.now) }
+    ensures lacks { result ≡ None → LacksDigits mark.now sockets.now }
 {
     let Some(references) = behind(sockets, mark) else {
         return None;
@@ -66,9 +69,10 @@ fn digits_in<'a>(sockets: &'a str, mark: &str) -> Option<&'a str>
 }
 
 /// How many datagrams were dropped at the socket with this mark, according to a text like that of
-/// `/proc/net/udp`; `None` if it has no such line.
+/// `/proc/net/udp`; `None` if it has no such line, or the line has no such number.
 pub fn dropped_in(sockets: &str, mark: &str) -> Option<u64>
-    ensures { IfSome result (λ count. SaysDropped mark.now sockets.now count) }
+    ensures found { IfSome result (λ count. SaysDropped mark.now sockets.now count) }
+    ensures lacks { result ≡ None → LacksDropped mark.now sockets.now }
 {
     match digits_in(sockets, mark) {
         Some(digits) => u64::from_str_radix(digits, 10).ok(),
