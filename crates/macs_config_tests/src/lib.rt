@@ -1,4 +1,4 @@
-//! Tests of the configuration and of its records, through the public calls.
+//! Tests of the configuration, of its records and of command files, through the public calls.
 #![tactic(auto)]
 
 #[cfg(test)]

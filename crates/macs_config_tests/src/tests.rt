@@ -1,7 +1,11 @@
 //! Commands on a configuration: what each one changes, when it is refused, and which keys it
 //! spends; fingerprints are by Python's hashlib. Records, heads and gates, written out by hand.
+//! Command files with each wrong value, and while memory is refused.
 
 mod applying;
+mod hostile_files;
+mod hostile_texts;
+mod memory;
 mod records;
 mod refusing;
 mod restoring;

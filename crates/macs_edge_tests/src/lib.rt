@@ -1,5 +1,5 @@
-//! Tests of the edge of an endpoint: captures, command files, wires, requests and the desk, through
-//! the public calls.
+//! Tests of the edge of an endpoint: captures, wires, requests and the desk, through the public
+//! calls.
 #![tactic(auto)]
 
 #[cfg(test)]

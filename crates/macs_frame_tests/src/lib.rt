@@ -1,4 +1,5 @@
-//! Tests of frames and of both channels against frames from outside, through the public calls.
+//! Tests of frames, of both channels against frames from outside, and of capture files, through the
+//! public calls.
 #![tactic(auto)]
 
 #[cfg(test)]

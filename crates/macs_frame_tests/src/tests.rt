@@ -1,7 +1,8 @@
 //! Frames of outside origin: IEEE Std 802.1AE-2018, Annex C, and Python's `cryptography`. They are
-//! sealed and opened, sent by a transmit channel, and judged by receive channels.
+//! sealed and opened, sent by a transmit channel, and judged by receive channels. Files of captures.
 
 mod altered;
+mod capture_files;
 mod known_frames;
 mod long_frames;
 mod opening;

@@ -2,7 +2,7 @@
 //! table of words and keys; none gives a command, even where good tables come before the bad one.
 
 use super::hostile_texts::{CONTROLS, NO_TOML, SHAPES};
-use macs_edge::{ConfigFault, KeyName, commands_of};
+use macs_commands::{ConfigFault, KeyName, commands_of};
 use std::alloc::Global;
 use std::process::Abort;
 
