@@ -6,6 +6,8 @@ mod MissedCalls
 pub mod ReadBack
 mod Kept
 mod ListedCalls
+pub mod ToldDisks
+pub mod ImageDisks
 mod Walks
 pub mod FileWrites
 pub mod FileReads
