@@ -12,7 +12,7 @@ use Rattle.macs_journal.specs.Areas.{gate, head_body, other_area, slot_body}
 use Rattle.macs_journal.specs.Stages.{IsBodyOf}
 use Rattle.macs_journal.specs.Stepping.{Advances, AdvancesAppend, AdvancesCompact, IsSameTask, Steps}
 use Rattle.macs_journal.specs.Stepping.{place_then}
-use Rattle.macs_journal.specs.Value.{AreLent, IsIdle, JournalValue, device_in, disk_in, is_stopped}
+use Rattle.macs_journal.specs.Value.{AreLent, IsIdle, JournalValue, device_in, disk_in, is_stopped, on_device}
 use Rattle.macs_journal.specs.declared.appending.AppendStage.{AppendStage}
 use Rattle.macs_journal.specs.declared.appending.AppendStage.TheVariants as append
 use Rattle.macs_journal.specs.declared.compact_stage.CompactStage.{CompactStage}
@@ -54,7 +54,7 @@ IsNextCall place (Compact work) snapshot asked =
 
 -- the journal, with its device as it was before
 abbrev pub with_device : {D : Type 0} → JournalValue D → D → JournalValue D
-with_device j device = record { disk = device; place = j.place; under_way = j.under_way; stopped = j.stopped }
+with_device j device = on_device j device
 
 -- What an append makes of the answer of its next device call. Nothing is called. If the call was made, and led from any
 -- device before to the present one, the append advanced by it from there.

@@ -28,6 +28,10 @@ device_in j = j.disk
 abbrev pub disk_in : {D : Type 0} → (D → Disk) → JournalValue D → Disk
 disk_in disk_of j = disk_of j.disk
 
+-- the journal on another device
+abbrev pub on_device : {D E : Type 0} → JournalValue D → E → JournalValue E
+on_device j device = record { disk = device; place = j.place; under_way = j.under_way; stopped = j.stopped }
+
 -- a device call failed: no other is made
 abbrev pub is_stopped : {D : Type 0} → JournalValue D → Bool
 is_stopped j = j.stopped

@@ -18,6 +18,7 @@ mod head_gate;
 mod heads;
 mod journal;
 pub mod laws;
+mod other_disk;
 mod place;
 mod record_source;
 mod recovery;
