@@ -10,7 +10,8 @@ use Rattle.macs_journal.specs.declared.work.JournalStep.{JournalStep}
 use Rattle.macs_journal.specs.declared.work.JournalStep.TheVariants.{Finished, Going, Idle}
 use Rattle.macs_store.specs.Snapshot.{snapshot}
 use Rattle.macs_store.specs.Stepping.{Steps}
-use Rattle.macs_store.specs.Value.{IsIdle, StoreValue, device_in, disk_in, is_stopped, standing_in, standing_then}
+use Rattle.macs_store.specs.Value.{IsIdle, StoreValue, device_in, disk_in, is_stopped, on_device, standing_in}
+use Rattle.macs_store.specs.Value.{standing_then}
 
 -- the device call that the work under way needs next
 abbrev pub IsNextCall : {D : Type 0} → StoreValue D → DeviceCall → Type 0
@@ -18,7 +19,7 @@ IsNextCall s asked = journal.IsNextCall s.journal.place s.journal.under_way (sna
 
 -- the store, with its device as it was before
 abbrev pub with_device : {D : Type 0} → StoreValue D → D → StoreValue D
-with_device s device = record s { journal = journal.with_device s.journal device }
+with_device s device = on_device s device
 
 -- What a store makes of the answer of its next device call. Nothing is called. If the call was made, and led from any
 -- device before to the present one, this is a step from there. What is in memory then holds regardless of which call

@@ -31,6 +31,11 @@ device_in s = journal.device_in s.journal
 abbrev pub disk_in : {D : Type 0} → (D → disk.Disk) → StoreValue D → disk.Disk
 disk_in disk_of s = journal.disk_in disk_of s.journal
 
+-- the store on another device
+abbrev pub on_device : {D E : Type 0} → StoreValue D → E → StoreValue E
+on_device s device =
+    record { journal = journal.on_device s.journal device; held = s.held; under_way = s.under_way }
+
 -- a device call failed: no other is made
 abbrev pub is_stopped : {D : Type 0} → StoreValue D → Bool
 is_stopped s = journal.is_stopped s.journal

@@ -10,6 +10,7 @@ pub mod laws;
 mod meaning;
 mod next_numbers;
 mod opening;
+mod other_disk;
 mod resting;
 mod snapshot;
 mod standing;
