@@ -32,3 +32,5 @@ mod OneCommand
 pub mod Rested
 mod RestCall
 mod MadeSteps
+pub mod OpenedDisks
+pub mod OtherDisk

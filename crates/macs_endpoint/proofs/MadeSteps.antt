@@ -1,5 +1,5 @@
--- An endpoint whose device call somebody made: with its device as it was before, and what holds in memory whoever made
--- the call.
+-- An endpoint with another device, as before a device call that somebody made; and what holds in memory whoever made the
+-- call.
 use Rattle.std.proofs.Common.{◌≡◌, ◌≢◌, ◌⊎◌, ◌∙◌, inl, inr, true, false, Some, Result, Ok, refl, sym, ap}
 use Rattle.macs_disk.specs.Disk as disk
 use Rattle.macs_disk.proofs.Moments.{Works-start}
@@ -9,18 +9,17 @@ use Rattle.macs_journal.specs.declared.work.JournalStep.TheVariants.{Finished, G
 use Rattle.macs_store.specs.Standing.{Standing}
 use Rattle.macs_store.specs.Table.{standing_of}
 use Rattle.macs_store.specs.Value.{IsIdle, StoreValue, is_stopped, standing_in, standing_then}
-use Rattle.macs_endpoint.specs.Halves.{with_device}
-use Rattle.macs_endpoint.specs.Value.{EndpointValue, IsAtRest, IsKeeping, IsReserving, IsSoundEndpoint}
+use Rattle.macs_endpoint.specs.Value.{EndpointValue, IsAtRest, IsKeeping, IsReserving, IsSoundEndpoint, on_device}
 use Rattle.macs_endpoint.proofs.Ended.{IsCut, IsDone}
 use Rattle.macs_endpoint.proofs.Working.{some_is}
 
--- ---- with its device as it was before
+-- ---- with another device
 
-module _ {D : Type 0} (e : EndpointValue D) (before : D) where
-  before-rest : IsAtRest e → IsAtRest (with_device e before)
+module _ {D E : Type 0} (e : EndpointValue D) (before : E) where
+  pub before-rest : IsAtRest e → IsAtRest (on_device e before)
   before-rest rest = record { store = rest.store; reserving = rest.reserving; under_way = rest.under_way }
 
-  pub before-reserving : IsReserving e → IsReserving (with_device e before)
+  pub before-reserving : IsReserving e → IsReserving (on_device e before)
   before-reserving work = record {
     running = work.running;
     busy = work.busy;
@@ -31,7 +30,7 @@ module _ {D : Type 0} (e : EndpointValue D) (before : D) where
     within = work.within;
   }
 
-  pub before-keeping : IsKeeping e → IsKeeping (with_device e before)
+  pub before-keeping : IsKeeping e → IsKeeping (on_device e before)
   before-keeping work = record {
     running = work.running;
     busy = work.busy;
@@ -47,12 +46,12 @@ module _ {D : Type 0} (e : EndpointValue D) (before : D) where
   }
 
   before-work : IsAtRest e ⊎ (IsReserving e ⊎ IsKeeping e)
-      → IsAtRest (with_device e before) ⊎ (IsReserving (with_device e before) ⊎ IsKeeping (with_device e before))
+      → IsAtRest (on_device e before) ⊎ (IsReserving (on_device e before) ⊎ IsKeeping (on_device e before))
   before-work (inl rest) = inl (before-rest rest)
   before-work (inr (inl work)) = inr (inl (before-reserving work))
   before-work (inr (inr work)) = inr (inr (before-keeping work))
 
-  pub before-sound : IsSoundEndpoint e → IsSoundEndpoint (with_device e before)
+  pub before-sound : IsSoundEndpoint e → IsSoundEndpoint (on_device e before)
   before-sound kept = record {
     identity = kept.identity;
     channels = kept.channels;

@@ -9,7 +9,7 @@ use Rattle.macs_store.specs.Halves as store
 use Rattle.macs_store.specs.Value.{IsIdle}
 use Rattle.macs_endpoint.specs.Calls.{IsCall, IsStep}
 use Rattle.macs_endpoint.specs.State.{Advanced, Advances}
-use Rattle.macs_endpoint.specs.Value.{EndpointValue, device_in, disk_in, is_stopped}
+use Rattle.macs_endpoint.specs.Value.{EndpointValue, device_in, disk_in, is_stopped, on_device}
 use Rattle.macs_endpoint.specs.declared.fault.StepFault.{StepFault}
 use Rattle.macs_endpoint.specs.declared.progress.Step.{Step as Progress}
 use Rattle.macs_endpoint.specs.declared.progress.Step.TheVariants.{Worked}
@@ -20,7 +20,7 @@ IsNextCall e asked = store.IsNextCall e.store asked
 
 -- the endpoint, with its device as it was before
 abbrev pub with_device : {D : Type 0} → EndpointValue D → D → EndpointValue D
-with_device e device = record e { store = store.with_device e.store device }
+with_device e device = on_device e device
 
 -- Work is under way. If it was under way before nothing changed; otherwise what was due has begun, which is a call like
 -- any other, that returns Worked. Either way, what the next device call makes of it is a step of the endpoint before.

@@ -45,6 +45,20 @@ device_in e = store.device_in e.store
 abbrev pub disk_in : {D : Type 0} → (D → Disk) → EndpointValue D → Disk
 disk_in disk_of e = store.disk_in disk_of e.store
 
+-- the endpoint on another device
+abbrev pub on_device : {D E : Type 0} → EndpointValue D → E → EndpointValue E
+on_device e device =
+    record {
+      store = store.on_device e.store device;
+      tx = e.tx;
+      rx = e.rx;
+      under_way = e.under_way;
+      reserving = e.reserving;
+      waiting = e.waiting;
+      tickets = e.tickets;
+      turn = e.turn;
+    }
+
 -- a device call failed: no other is made
 abbrev pub is_stopped : {D : Type 0} → EndpointValue D → Bool
 is_stopped e = store.is_stopped e.store

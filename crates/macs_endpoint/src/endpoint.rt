@@ -8,7 +8,7 @@ ghost use Rattle.macs_rxsc.specs.Receive.{Numbers};
 ghost use Rattle.macs_store.specs.Standing.{accept};
 ghost use Rattle.macs_store.specs.Value.{IsIdle, standing_in};
 ghost use Rattle.macs_endpoint.specs.Calls.{IsCall};
-ghost use Rattle.macs_endpoint.specs.Opening.{BeginsOpened, IsOpening};
+ghost use Rattle.macs_endpoint.specs.Opening.{Begins, BeginsOpened, IsOpening};
 ghost use Rattle.macs_endpoint.specs.KeptCommands.{KeepsCommand};
 ghost use Rattle.macs_endpoint.specs.Parts.{endpoint_of};
 ghost use Rattle.macs_endpoint.specs.Value.{EndpointValue, IsSoundEndpoint, device_in, is_stopped};
@@ -35,10 +35,10 @@ use std::marker::Model;
 /// call that can return `Stopped` does so until the disk is opened again; readers still work.
 #[derive(Drop)]
 pub struct Endpoint<D: SectorDisk> {
+    pub(crate) channels: Channels, // In front of an enum, so that the compiler moves them directly.
+    pub(crate) turn: Turn,
     pub(crate) store: Store<D>,
     pub(crate) queue: Queue,
-    pub(crate) channels: Channels, // After an integer, so that the compiler moves it separately.
-    pub(crate) turn: Turn,
 }
 
 impl<D: SectorDisk> Model for Endpoint<D> {
@@ -65,17 +65,25 @@ impl<D: SectorDisk> Endpoint<D> {
     }
 
     /// The result for an opened store that has nothing under way, or for a refusal: the endpoint
-    /// that begins with the contents of the store. It is built in one place, and each part is moved
-    /// there once.
+    /// that begins with the contents of the store.
     #[inline(never)] // What it takes of the stack is not there while the disk is read.
     fn begun(opened: Result<Store<D>, OpenRefused<D>>) -> Result<Endpoint<D>, OpenRefused<D>>
         requires { IfOk opened IsIdle }
         ensures { BeginsOpened opened result }
     {
-        let store = match opened {
-            Ok(store) => store,
-            Err(refused) => return Err(refused),
-        };
+        match opened {
+            Ok(store) => Ok(Endpoint::with_store(store)),
+            Err(refused) => Err(refused),
+        }
+    }
+
+    /// The endpoint that begins with the contents of a store, which has nothing under way: that of
+    /// a disk that was opened.
+    #[inline(always)] // Else it has a place of its own for the endpoint, beside its caller's.
+    pub fn with_store(store: Store<D>) -> Endpoint<D>
+        requires { IsIdle store }
+        ensures { Begins store result }
+    {
         let mut channels = Channels {
             tx: Tx::new(store.identity().sci()),
             rx: Rx::new(),
@@ -84,12 +92,12 @@ impl<D: SectorDisk> Endpoint<D> {
         identity_in_range(&store.identity());
         channels.tx.facts();
         store.config().facts();
-        Ok(Endpoint {
+        Endpoint {
             store,
             queue: Queue::new(),
-            channels,
             turn: Turn::Reservation,
-        })
+            channels,
+        }
     }
 
     /// Keeps a command and follows it. A reservation under way is finished first, and no other

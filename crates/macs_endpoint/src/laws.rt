@@ -12,8 +12,8 @@ ghost use Rattle.macs_store.specs.Value.{IsIdle, standing_in};
 ghost use Rattle.macs_endpoint.specs.Advancing.{ToRaise, next_due};
 ghost use Rattle.macs_endpoint.specs.Calls.{IsCall, IsStep};
 ghost use Rattle.macs_endpoint.specs.Ceilings.{Raise, standing_with_raise};
-ghost use Rattle.macs_endpoint.specs.Value.{EndpointValue, IsBacked, IsSoundEndpoint, disk_in};
-ghost use Rattle.macs_endpoint.specs.Value.{is_stopped, state_of};
+ghost use Rattle.macs_endpoint.specs.Value.{EndpointValue, IsAtRest, IsBacked, IsSoundEndpoint};
+ghost use Rattle.macs_endpoint.specs.Value.{disk_in, is_stopped, on_device, state_of};
 ghost use Rattle.macs_endpoint.specs.WorkThroughCalls.{Lasts, Needs, NoneDone, NoneReserved};
 ghost use Rattle.macs_endpoint.specs.WorkThroughCalls.{commands_done, reservations_made};
 ghost use Rattle.macs_endpoint.specs.WorkThroughCalls.{steps_made};
@@ -25,7 +25,7 @@ ghost use Rattle.macs_endpoint.specs.State.{Received, Receives, Refilled, Refill
 ghost use Rattle.macs_endpoint.specs.State.{command_made, no_logs, rx_side};
 ghost use Rattle.macs_endpoint.specs.declared.fault.ProtectFault.TheVariants.{Tx};
 ghost use Rattle.macs_endpoint.specs.declared.progress.Step.TheVariants.{Idle, Reserved, Worked};
-ghost use Rattle.macs_disk.specs.Disk.{MayLeave};
+ghost use Rattle.macs_disk.specs.Disk.{MayLeave, now};
 ghost use Rattle.macs_disk.specs.States.{Image};
 ghost use Rattle.macs_endpoint.specs.AtRest.{IsLevel, OpensAt, SkipsNone};
 ghost use Rattle.macs_endpoint.specs.Restart.{opened_state};
@@ -177,4 +177,15 @@ pub fn rests_skip_no_number<D: SectorDisk>()
     ensures skips { (sectors : ℕ) (image : Image) (s : State) (found : Standing) (logs : Logs)
         → OpensAt sectors image s → StandingIs s.edition sectors image (Ok found)
         → SkipsNone s (opened_state found logs) }
+{}
+
+/// An endpoint that moves to another disk.
+///
+/// If no work is under way, and the other disk holds now what its own does, it holds what is in
+/// memory: what a power loss leaves there fits the endpoint's state.
+pub fn other_disks_back<D: SectorDisk, E: SectorDisk>()
+    ensures { (e : EndpointValue D) (device : E) → IsAtRest e → IsBacked D.disk e
+        → (E.disk device).sectors ≡ (disk_in D.disk e).sectors
+        → now (E.disk device) ≡ now (disk_in D.disk e)
+        → IsBacked E.disk (on_device e device) }
 {}

@@ -11,6 +11,7 @@ mod formatting;
 mod halves;
 pub mod laws;
 mod opening;
+mod other_disk;
 mod ports;
 mod progress;
 mod queue;
