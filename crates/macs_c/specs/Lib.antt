@@ -2,3 +2,11 @@ pub mod Keys
 pub mod Fields
 pub mod Reading
 pub mod Refusals
+pub mod Answers
+pub mod Held
+pub mod Lent
+pub mod Calls
+pub mod Formatted
+pub mod Commands
+pub mod Frames
+pub mod Shown

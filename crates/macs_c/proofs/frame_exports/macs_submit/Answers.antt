@@ -1,0 +1,11 @@
+use Rattle.macs_c.specs.declared.answers.Answer.TheVariants as code
+use Rattle.macs_c.proofs.ExportedFrames.{submit-closed}
+use Rattle.macs_c.proofs.frame_exports.macs_submit.Goals as goal
+
+pub returns-then-not-is_open : goal.returns-then-not-is_open
+returns-then-not-is_open c = (
+  code.Closed,
+  c.number_of.ensures,
+  submit-closed c.args.endpoint.now _ c.is_open.result c.is_open.ensures.0 c.is_open.ensures.1 c.if-not-is_open.true
+      c.args.command.now c.args.ticket.now,
+)

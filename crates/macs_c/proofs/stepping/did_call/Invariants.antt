@@ -1,0 +1,4 @@
+use Rattle.macs_c.proofs.stepping.did_call.Given as goal
+
+abbrev pub ghost-after : goal.ghost-after
+ghost-after g a = g.next

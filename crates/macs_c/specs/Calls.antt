@@ -1,0 +1,115 @@
+-- The calls of an endpoint from C: each is the call of the crate below, or changes nothing, for a cause that is named.
+use Rattle.std.specs.Prelude.{◌≡◌, ◌⊎◌, ◌==◌, ℕ, Bool, true, if◌then◌else◌, List, Option, Some, None, Result, Ok, Err}
+use Rattle.macs_disk.specs.DeviceCalls.{IsWithin}
+use Rattle.macs_disk.specs.ImageDisks.{ImageValue, image_disk, image_from}
+use Rattle.macs_disk.specs.ToldDisks.{MayBeTold, Moment, ToldValue, told_after, told_disk, told_from}
+use Rattle.macs_disk.specs.declared.device_call.DeviceCall.{DeviceCall}
+use Rattle.macs_disk.specs.declared.device_call.DeviceCall.TheVariants.{Read, Write, Sync}
+use Rattle.macs_disk.specs.declared.disk.DeviceFault.{DeviceFault}
+use Rattle.macs_journal.specs.declared.fault.JournalFault.{JournalFault}
+use Rattle.macs_store.specs.Opening as store
+use Rattle.macs_store.specs.Opening.{RefusesDisk}
+use Rattle.macs_store.specs.Value.{IsIdle, StoreValue, on_device as store_on_device}
+use Rattle.macs_endpoint.specs.Calls.{IsCall, IsStep}
+use Rattle.macs_endpoint.specs.Halves.{HasBegun, IsNextCall}
+use Rattle.macs_endpoint.specs.Opening.{Begins, Opens, RefusesOpening}
+use Rattle.macs_endpoint.specs.State.{Advanced, Advances}
+use Rattle.macs_endpoint.specs.Value.{EndpointValue, IsBacked, device_in, disk_in, is_stopped, on_device}
+use Rattle.macs_endpoint.specs.declared.fault.StepFault.{StepFault}
+use Rattle.macs_endpoint.specs.declared.progress.Step.{Step}
+use Rattle.macs_endpoint.specs.declared.progress.Step.TheVariants.{Done}
+use Rattle.macs_c.specs.Answers.{command_answer, number_of, open_answer, step_answer}
+use Rattle.macs_c.specs.declared.answers.Answer.{Answer}
+use Rattle.macs_c.specs.declared.answers.Answer.TheVariants as code
+use Rattle.macs_c.specs.declared.device_calls.MacsCall.{MacsCall}
+use Rattle.macs_c.specs.declared.device_calls.MacsDone.{MacsDone}
+use Rattle.macs_c.specs.declared.slot.Slot.{Slot}
+
+-- an endpoint whose device calls a C program makes
+abbrev pub E : Type 0
+E = EndpointValue ToldValue
+
+-- ---- opening
+
+-- An endpoint was opened from these sectors, and is on a disk with them, all durable, which holds what is in memory.
+pub record IsOpened (honest : Bool) (sectors : List (List ℕ)) (e : E) : Type 0 where
+  pub from : EndpointValue ImageValue
+  pub opens : Opens image_disk (image_from sectors) from
+  pub moved : e ≡ on_device from (told_from sectors honest)
+  pub backed : IsBacked told_disk e
+
+-- An endpoint is opened where none was, or nothing changes: one was open, or the sectors are refused.
+abbrev pub OpenAnswer : Bool → List (List ℕ) → Option Slot → Answer → Option Slot → Type 0
+OpenAnswer honest sectors (Some old) answer new = (answer ≡ code.Open) × (new ≡ Some old)
+OpenAnswer honest sectors None answer (Some new) = (answer ≡ code.Success) × IsOpened honest sectors new.endpoint
+OpenAnswer honest sectors None answer None =
+    (fault : JournalFault) × (left : ImageValue) × (answer ≡ open_answer fault)
+    × RefusesOpening image_disk (image_from sectors) left fault
+
+-- Its first part: the store that was opened from these sectors, moved to a disk with them; or why they are refused.
+abbrev pub StoreFrom : Bool → List (List ℕ) → Result (StoreValue ToldValue) JournalFault → Type 0
+StoreFrom honest sectors (Ok s) = (from : StoreValue ImageValue) × store.Opens image_disk (image_from sectors) from
+    × (s ≡ store_on_device from (told_from sectors honest))
+StoreFrom honest sectors (Err fault) = (left : ImageValue) × RefusesDisk image_disk (image_from sectors) left fault
+
+-- and its second: the endpoint that begins with a store is there
+abbrev pub BeginsThere : StoreValue ToldValue → Option Slot → Type 0
+BeginsThere s there = (e : E) × (there ≡ Some (record { endpoint = e })) × Begins s e
+
+-- ---- device calls
+
+-- a device call as a C program gets it
+abbrev pub call_after : MacsCall → DeviceCall → MacsCall
+call_after old (Read at) = record { kind = 1; sector = at; octets = old.octets }
+call_after old (Write at octets) = record { kind = 2; sector = at; octets = octets }
+call_after old Sync = record { kind = 3; sector = old.sector; octets = old.octets }
+
+-- the report on a command that a step completed
+abbrev pub done_after : MacsDone → Result Step StepFault → MacsDone
+done_after old (Ok (Done ticket result)) = record { ticket = ticket; answer = number_of (command_answer result) }
+done_after old result = old
+
+-- what a C program says of a device call that it made: 1 if it succeeded
+abbrev pub told : ℕ → Result (Unit {0}) DeviceFault
+told ok = if ok == 1 then Ok tt else Err (record {})
+
+-- Work is under way, and its next device call is named; or a step needs none, and this is its result. No device call is
+-- made.
+abbrev pub NextFrom : E → MacsCall → MacsDone → Answer → MacsCall → MacsDone → E → Type 0
+NextFrom old call done answer call' done' new =
+    ((answer ≡ code.Call) × HasBegun told_disk old new × (device_in new ≡ device_in old) × (done' ≡ done)
+    × ((asked : DeviceCall) × IsNextCall new asked × IsWithin (disk_in told_disk new).sectors asked
+    × (call' ≡ call_after call asked)))
+    ⊎ ((result : Result Step StepFault) × (answer ≡ step_answer result) × IsStep told_disk old result new
+    × (device_in new ≡ device_in old) × (call' ≡ call) × (done' ≡ done_after done result))
+
+-- What is told of the call that is awaited fits an honest device.
+abbrev pub MayTell : E → Moment → List ℕ → ℕ → Type 0
+MayTell e next read ok = (asked : DeviceCall) → IsNextCall e asked → MayBeTold (device_in e) next asked read (told ok)
+
+-- The call that was named was made, and the endpoint went on from there, as by a step that made it itself; or none is
+-- awaited, since the endpoint is stopped or has no work under way.
+abbrev pub DidFrom : E → Moment → List ℕ → ℕ → MacsDone → Answer → MacsDone → E → Type 0
+DidFrom old next read ok done answer done' new =
+    ((answer ≡ code.NoCall) × ((is_stopped old ≡ true) ⊎ IsIdle old.store) × (new ≡ old) × (done' ≡ done))
+    ⊎ ((result : Result Step StepFault) × (answer ≡ step_answer result)
+    × IsCall told_disk old Advances (Advanced result) new
+    × (device_in new ≡ told_after (device_in old) next (told ok)) × (done' ≡ done_after done result))
+
+-- the same where an endpoint may be open
+abbrev pub NextAnswer : Option Slot → MacsCall → MacsDone → Answer → MacsCall → MacsDone → Option Slot → Type 0
+NextAnswer None call done answer call' done' new =
+    (answer ≡ code.Closed) × (new ≡ None) × (call' ≡ call) × (done' ≡ done)
+NextAnswer (Some old) call done answer call' done' None = ⊥
+NextAnswer (Some old) call done answer call' done' (Some new) =
+    NextFrom old.endpoint call done answer call' done' new.endpoint
+
+abbrev pub MayTellThere : Option Slot → Moment → List ℕ → ℕ → Type 0
+MayTellThere None next read ok = Unit {0}
+MayTellThere (Some slot) next read ok = MayTell slot.endpoint next read ok
+
+abbrev pub DidAnswer : Option Slot → Moment → List ℕ → ℕ → MacsDone → Answer → MacsDone → Option Slot → Type 0
+DidAnswer None next read ok done answer done' new = (answer ≡ code.Closed) × (new ≡ None) × (done' ≡ done)
+DidAnswer (Some old) next read ok done answer done' None = ⊥
+DidAnswer (Some old) next read ok done answer done' (Some new) =
+    DidFrom old.endpoint next read ok done answer done' new.endpoint

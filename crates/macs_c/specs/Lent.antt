@@ -1,0 +1,13 @@
+-- A handle whose endpoint is lent.
+use Rattle.std.specs.Prelude.{Some}
+use Rattle.std.specs.Borrow.{Lends, MutBor, Fml}
+use Rattle.macs_c.specs.declared.handle.MacsEndpoint.{MacsEndpoint}
+use Rattle.macs_c.specs.declared.slot.Slot.{Slot}
+use Rattle.macs_c.specs.contracts.handle.MacsEndpoint.{the_row as handle_row}
+use Rattle.macs_c.specs.contracts.slot.Slot.{the_row as slot_row}
+
+abbrev pub with_slot : MacsEndpoint → Slot → MacsEndpoint
+with_slot h w = record h { value = Some w }
+
+abbrev pub LendsSlot : MutBor MacsEndpoint → MutBor Slot → Fml
+LendsSlot h r = Lends handle_row slot_row h r (with_slot h.now)

@@ -1,0 +1,103 @@
+//! The calls of `include/macsec.h` for a whole endpoint.
+
+ghost use Rattle.std.specs.Prelude.{◌≡◌, Bool, None};
+ghost use Rattle.macs_disk.specs.ToldDisks.{Moment};
+ghost use Rattle.macs_c.specs.Answers.{number_of};
+ghost use Rattle.macs_c.specs.Calls.{DidAnswer, MayTellThere, NextAnswer, OpenAnswer};
+ghost use Rattle.macs_c.specs.declared.answers.Answer.{Answer};
+
+use crate::answers::{Answer, number_of, open_answer};
+use crate::device_calls::{MacsCall, MacsDone};
+use crate::handle::MacsEndpoint;
+use crate::slot::Slot;
+use crate::starting::{begin, store_of};
+use crate::stepping::{did_call, next_call};
+use std::mem::{align_of, size_of};
+
+// What `include/macsec.h` says.
+const _: () = prove!(size_of::<Slot>() == 263_440 && align_of::<Slot>() == 16);
+
+/// How many octets an endpoint takes: `MACS_ENDPOINT`.
+#[unsafe(no_mangle)]
+pub extern "C" fn macs_endpoint_size() -> usize {
+    size_of::<Slot>()
+}
+
+/// The alignment of its memory: `MACS_ENDPOINT_ALIGNMENT`.
+#[unsafe(no_mangle)]
+pub extern "C" fn macs_endpoint_alignment() -> usize {
+    align_of::<Slot>()
+}
+
+/// Opens an endpoint in the caller's memory, from all sectors of its disk as reads give them after
+/// a sync that succeeded. Returns 0, or the code of a refusal: then nothing is open there, as
+/// before; or that an endpoint is open there already, which stays as it is.
+#[unsafe(no_mangle)]
+pub extern "C" fn macs_open(endpoint: &mut MacsEndpoint, sectors: &[[u8; 512]]) -> u32
+    ghost honest: { Bool }
+    ensures { (answer : Answer) × (result ≡ number_of answer)
+        × OpenAnswer honest sectors.now endpoint.old.value answer endpoint.new.value }
+{
+    if endpoint.is_open() {
+        return number_of(Answer::Open);
+    }
+    match store_of(sectors) {
+        Ok(store) => {
+            begin(endpoint, store);
+            number_of(Answer::Success)
+        }
+        Err(fault) => number_of(open_answer(fault)),
+    }
+}
+
+/// Goes on with the pending work of an endpoint, up to its next device call, which is stored in
+/// `call`. It stays the same until `macs_did_call`; frames and commands may come between. If a step
+/// needs no device call, it is complete, and a command that it completed is stored in `done`. No
+/// device call is made.
+#[unsafe(no_mangle)]
+pub extern "C" fn macs_next_call(
+    endpoint: &mut MacsEndpoint,
+    call: &mut MacsCall,
+    done: &mut MacsDone,
+) -> u32
+    ensures { (answer : Answer) × (result ≡ number_of answer)
+        × NextAnswer endpoint.old.value call.old done.old answer call.new done.new
+        endpoint.new.value }
+{
+    if !endpoint.is_open() {
+        return number_of(Answer::Closed);
+    }
+    let slot = endpoint.get();
+    number_of(next_call(&mut slot.endpoint, call, done))
+}
+
+/// Goes on after the device call that `macs_next_call` named was made: `ok` is 1 if it succeeded,
+/// and `read` is what it read. A command that is completed is stored in `done`. If no device call
+/// is awaited nothing changes.
+#[unsafe(no_mangle)]
+pub extern "C" fn macs_did_call(
+    endpoint: &mut MacsEndpoint,
+    read: &[u8; 512],
+    ok: u32,
+    done: &mut MacsDone,
+) -> u32
+    ghost next: { Moment }
+    requires { MayTellThere endpoint.old.value next read.now ok }
+    ensures { (answer : Answer) × (result ≡ number_of answer)
+        × DidAnswer endpoint.old.value next read.now ok done.old answer done.new
+        endpoint.new.value }
+{
+    if !endpoint.is_open() {
+        return number_of(Answer::Closed);
+    }
+    let slot = endpoint.get();
+    number_of(did_call(&mut slot.endpoint, read, ok, done))
+}
+
+/// Forgets the endpoint: its memory is the caller's again, with the keys in it.
+#[unsafe(no_mangle)]
+pub extern "C" fn macs_close(endpoint: &mut MacsEndpoint)
+    ensures { endpoint.new.value ≡ None }
+{
+    endpoint.close();
+}

@@ -1,0 +1,37 @@
+//! The two parts of an opening. What either takes of the stack is not there while the other runs.
+
+ghost use Rattle.std.specs.Prelude.{◌≡◌, Bool, None};
+ghost use Rattle.macs_store.specs.Value.{IsIdle};
+ghost use Rattle.macs_c.specs.Calls.{BeginsThere, StoreFrom};
+
+use crate::handle::MacsEndpoint;
+use crate::slot::Slot;
+use macs_disk::{ImageDisk, ToldDisk};
+use macs_endpoint::Endpoint;
+use macs_journal::JournalFault;
+use macs_store::Store;
+
+/// Reads what an endpoint keeps from all sectors of its disk, and moves it to a disk with these
+/// sectors, whose calls somebody else makes.
+#[inline(never)]
+pub(crate) fn store_of(sectors: &[[u8; 512]]) -> Result<Store<ToldDisk>, JournalFault>
+    ghost honest: { Bool }
+    ensures { StoreFrom honest sectors.now result }
+{
+    match Store::open(ImageDisk::of(sectors)) {
+        Ok(store) => Ok(store.on(ToldDisk::of(sectors))),
+        Err(refused) => Err(refused.fault),
+    }
+}
+
+/// Puts the endpoint there that begins with what was read.
+#[inline(never)]
+pub(crate) fn begin(endpoint: &mut MacsEndpoint, store: Store<ToldDisk>)
+    requires closed { endpoint.old.value ≡ None }
+    requires idle { IsIdle store }
+    ensures { BeginsThere store endpoint.new.value }
+{
+    endpoint.put(Slot {
+        endpoint: Endpoint::with_store(store),
+    });
+}

@@ -1,0 +1,53 @@
+//! The work of an endpoint on its disk, cut at the device calls, which a C program makes.
+
+ghost use Rattle.std.specs.Prelude.{◌≡◌};
+ghost use Rattle.macs_disk.specs.ToldDisks.{Moment};
+ghost use Rattle.macs_c.specs.Calls.{DidFrom, MayTell, NextFrom};
+
+use crate::answers::{Answer, step_answer};
+use crate::device_calls::{MacsCall, MacsDone, say, say_done, told};
+use macs_disk::ToldDisk;
+use macs_endpoint::Endpoint;
+
+/// Begins what is due, unless work is under way, and names its next device call.
+pub(crate) fn next_call(
+    endpoint: &mut Endpoint<ToldDisk>,
+    call: &mut MacsCall,
+    done: &mut MacsDone,
+) -> Answer
+    ensures { NextFrom endpoint.old call.old done.old result call.new done.new endpoint.new }
+{
+    if let Some(stepped) = endpoint.begin() {
+        say_done(&stepped, done);
+        return step_answer(&stepped);
+    }
+    let Some(next) = endpoint.next_call() else {
+        return Answer::Call; // Not reached.
+    };
+    say(&next, call);
+    Answer::Call
+}
+
+/// Goes on after the device call that was named: with whether it succeeded, and what it read.
+pub(crate) fn did_call(
+    endpoint: &mut Endpoint<ToldDisk>,
+    read: &[u8; 512],
+    ok: u32,
+    done: &mut MacsDone,
+) -> Answer
+    ghost next: { Moment }
+    requires { MayTell endpoint.old next read.now ok }
+    ensures { DidFrom endpoint.old next read.now ok done.old result done.new endpoint.new }
+{
+    let Some(call) = endpoint.next_call() else {
+        return Answer::NoCall;
+    };
+    let said = told(ok);
+    let disk = endpoint.disk();
+    let answer = disk.hear(said);
+    let later = disk.after(&call, read, said);
+    endpoint.replace_disk(later);
+    let stepped = endpoint.did_call(read, answer);
+    say_done(&stepped, done);
+    step_answer(&stepped)
+}
