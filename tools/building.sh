@@ -16,13 +16,13 @@ processor() {
     echo x86-64-v3
 }
 
-# The crates that the program needs, and it, lowest first.
-crates() {
-    awk -F: '
+# The crates that a crate needs, the program if none is named, and it, lowest first.
+crates() { # [CRATE]
+    awk -F: -v root="${1:-macsecd}" '
         { sub(/#.*/, "") }
         NF == 2 { split($1, words, " "); names[++count] = words[1]; below[words[1]] = $2 }
         END {
-            needed["macsecd"]
+            needed[root]
             for (at = count; at > 0; at--) if (names[at] in needed) {
                 libraries = split(below[names[at]], of, " ")
                 for (i = 1; i <= libraries; i++) needed[of[i]]
@@ -31,10 +31,12 @@ crates() {
         }' "$top/crates.txt"
 }
 
-# A checksum of the names and the octets of all that the program is built from.
-source_sum() (
+# A checksum of the names and the octets of all that the program is built from, or the crate that is named.
+source_sum() ( # [CRATE]
     cd "$top" || exit
-    for crate in $(crates); do
+    crates=$(crates "${1:-macsecd}")
+    set --
+    for crate in $crates; do
         for part in src specs proofs; do
             [ ! -d "crates/$crate/$part" ] || set -- "$@" "crates/$crate/$part"
         done

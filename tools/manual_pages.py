@@ -1,8 +1,9 @@
 #!/usr/bin/env python3
-"""Makes the manual pages `macsecd.1` and `macsecd-link.5` from the program's own help and from the pages of docs.
+"""Makes the manual pages `macsecd.1` and `macsecd-link.5` from the program's own help and from the pages of docs, and `macsec.3` from macsec.h.
 
     python3 tools/manual_pages.py make PROGRAM FOLDER
     python3 tools/manual_pages.py check PROGRAM FOLDER
+    python3 tools/manual_pages.py library
 
 `make` writes both pages into FOLDER. `check` has them rendered (`mandoc`, or `groff` where that is not there) and looks for what has to be in
 them: each line of each help, each subcommand, option and status, each heading of docs/OPERATIONS.md, each row of its tables of lines, and each
@@ -10,7 +11,7 @@ command and refusal of docs/MACSEC.md. It also looks for broken sentences: one t
 small letter, a `status:` of the help that is not one paragraph. It prints a line for each that is missing or broken, and ends with status 1
 where there is one.
 
-`check` reads the help and the documents by itself, and what has to be in the pages only as they are rendered.
+`check` reads the help and the documents by itself, and what has to be in the pages only as they are rendered. `library` prints `macsec.3`.
 """
 import itertools
 import os
@@ -300,6 +301,53 @@ def page_of_link(given):
     return [line for part in parts for line in part]
 
 
+# The page of the library: include/macsec.h, its comments as running text.
+
+HEADER = "include/macsec.h"
+# What of the header no reader needs: guards, the last braces, and how the answers become an enum and a text.
+NO_CODE = re.compile(r"^#(?!define MACS).*\n|^#define MACSEC_H\n|^#define MACS_ANSWER.*\n|^enum macs_answer \{\n(?:.*\n)*?\};\n|^#endif\n|^extern \"C\" \{\n|^\}\n", re.M)
+
+
+def header_blocks():
+    """The parts of the header, each a comment and the code after it."""
+    text = document(HEADER).replace("#define MACS_ANSWERS(X)", "")
+    text = re.sub(r"^static inline (.*?) \{\n.*?^\}\n", r"\1;\n", text, flags=re.M | re.S)
+    for comment, code in re.findall(r"^/\* (.*?) ?\*/\n(.*?)(?=^/\*|\Z)", text, re.M | re.S):
+        yield re.sub(r"^ \* ?", "", comment, flags=re.M), NO_CODE.sub("", code).strip("\n")
+
+
+def comment_of(text):
+    """A comment: its title, if it has one, becomes a heading; what is indented is an example or belongs to the list above it."""
+    title, _, rest = text.partition("\n\n")
+    if rest and not re.search(r"[.:;]", title):
+        yield f".SH {title.upper()}"
+        text = rest
+    for block in re.split(r"\n\n", text):
+        if block.startswith("    "):
+            yield from verbatim(textwrap.dedent(block).splitlines())
+        else:
+            yield from roff(textwrap.dedent(block))
+
+
+def answers_of(code):
+    """The list of answers, each with its number and its words."""
+    for name, number, words in re.findall(r'X\((\w+), (\d+), "([^"]*)"\)', code):
+        yield from [".TP", inline(f"**{name}** {number}"), escaped(closed(capital(words)))]
+
+
+def library_page(version):
+    note = r'.\" Made by tools/manual_pages.py from include/macsec.h.'
+    use = ["#include <macsec.h>", "", "cc PROGRAM.c $(pkg-config --cflags --libs macsec)"]
+    lines = [note, f'.TH MACSEC 3 "" "macsec {version}" "Library Functions"', ".nh", ".ad l",
+             ".SH NAME", r"macsec \- MACsec frames, and endpoints that use no packet number twice", ".SH SYNOPSIS", *verbatim(use)[1:], ".SH DESCRIPTION"]
+    for comment, code in header_blocks():
+        lines += comment_of(comment)
+        listed_answers = list(answers_of(code))
+        lines += listed_answers or (verbatim(code.splitlines()) if code else [])
+    lines += [".SH SEE ALSO", r"\fBmacsecd\fR(1), \fBpkg\-config\fR(1)"]
+    return "".join(f"{it}\n" for it in tidied(lines))
+
+
 def tidied(lines):
     """The lines without a paragraph's mark beside another mark of that kind, or a heading."""
     out = []
@@ -464,6 +512,8 @@ def check(given, folder):
 
 
 def main():
+    if sys.argv[1:] == ["library"]:
+        sys.exit(print(library_page(re.search(r'MACSEC_VERSION "(.*)"', document(HEADER))[1]), end=""))
     if len(sys.argv) != 4 or sys.argv[1] not in ("make", "check"):
         sys.exit(__doc__)
     _, word, program, folder = sys.argv
