@@ -62,6 +62,7 @@ pub fn relay_kept<'a, T: Files + Net + Clock + Env, W: Stream>(
     let addresses = addresses_of(controlled, common)?;
     let wires = bind_wires(rt, alloc, addresses, running.buffer)?;
     let (kept, socket) = kept_disk_at(&mut SystemKeepers { net: rt }, keeper)?;
+    let mut desk = None;
     let task = RelayWires {
         rt,
         alloc,
@@ -69,6 +70,7 @@ pub fn relay_kept<'a, T: Files + Net + Clock + Env, W: Stream>(
         wires,
         keeper: socket,
         running,
+        left: &mut desk,
     };
     with_disk(kept, task, out)
 }

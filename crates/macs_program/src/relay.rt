@@ -11,7 +11,7 @@ ghost use Rattle.macs_program.specs.Relaying.{ComesTo, IsUnbound, RelayFailsIn, 
 ghost use Rattle.macs_program.specs.Relaying.{RelaysAttended, course_of, is_attended, new_wire};
 ghost use Rattle.macs_program.specs.Tasks.{DoesRelay};
 
-use crate::attendants::{desk_for, leave};
+use crate::attendants::{SystemDesk, desk_for, leave};
 use crate::kept_relay::relay_kept;
 use crate::pacing::{Rest, limit_of};
 use crate::task::{Task, with_file};
@@ -62,7 +62,7 @@ fn serve<D: SectorDisk, C: Clients, M: Metrics, S: Overruns + KeyNotes + Time, W
 
 /// Relays frames through an endpoint between two wires, of which no call has been made yet.
 #[derive(Drop)]
-pub struct RelayWires<'a, T> {
+pub struct RelayWires<'a, 'd, T> {
     pub rt: &'a T,
     pub alloc: Global,
     pub disk: &'a str,
@@ -70,12 +70,15 @@ pub struct RelayWires<'a, T> {
     /// The connection to the keeper of the disk, or `NO_SOCKET`.
     pub keeper: RawFd,
     pub running: Running<'a>,
+    /// Where the desk is left at the end. It is dropped after the disk is closed, so a client that
+    /// sees its connection end finds the disk file free.
+    pub left: &'d mut Option<SystemDesk<'a, T>>,
     ghost new_controlled: { ⟦<UdpWire<Global, UdpSocket> as Wire>⟧.state wires.controlled
         ≡ new_wire },
     ghost new_common: { ⟦<UdpWire<Global, UdpSocket> as Wire>⟧.state wires.common ≡ new_wire },
 }
 
-impl<T: Files + Net + Clock + Env> RelayWires<'_, T> {
+impl<T: Files + Net + Clock + Env> RelayWires<'_, '_, T> {
     ghost use Rattle.std.specs.Prelude.{◌≡◌, [], true, false};
     ghost use Rattle.macs_program.specs.Relaying.{course_with};
     ghost use Rattle.macs_program.specs.Tasks.{DoesRelay};
@@ -99,6 +102,7 @@ impl<T: Files + Net + Clock + Env> RelayWires<'_, T> {
             wires,
             keeper,
             running,
+            left,
         } = self;
         let mut desk = desk_for(rt, alloc, disk, &running, wires.sockets(keeper))?;
         let notifier = Notifier::of_environment(rt, alloc);
@@ -106,6 +110,7 @@ impl<T: Files + Net + Clock + Env> RelayWires<'_, T> {
         let result = serve(wires, endpoint, &mut desk, running.pace, out);
         notifier.stopping();
         leave(rt, &running);
+        *left = Some(desk);
         result
     }
 
@@ -133,13 +138,14 @@ impl<T: Files + Net + Clock + Env> RelayWires<'_, T> {
     }
 }
 
-impl<T: Files + Net + Clock + Env, D: SectorDisk, W: Stream> Task<D, W> for RelayWires<'_, T> {
+impl<T: Files + Net + Clock + Env, D: SectorDisk, W: Stream> Task<D, W> for RelayWires<'_, '_, T> {
     ghost does = { λ task. DoesRelay D.disk W.contents W.failed
         (course_of T task.disk.now task.running) };
 
     #[inline(never)]
     fn run(self, endpoint: &mut Endpoint<D>, out: &mut W) -> Result<Status, Failure> {
-        if is_attended(&self.running) {
+        let running = self.running;
+        if is_attended(&running) {
             self.attend(endpoint, out)
         } else {
             self.leave_alone(endpoint, out)
@@ -183,6 +189,7 @@ where
     let addresses = addresses_of(controlled, common)?;
     match bind_wires(rt, alloc, addresses, running.buffer) {
         Ok(wires) => {
+            let mut desk = None;
             let task = RelayWires {
                 rt,
                 alloc,
@@ -190,6 +197,7 @@ where
                 wires,
                 keeper: NO_SOCKET,
                 running,
+                left: &mut desk,
             };
             with_file(rt, alloc, disk, task, out)
         }
