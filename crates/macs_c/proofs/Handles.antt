@@ -1,5 +1,7 @@
 -- The handle taken apart and made again.
-use Rattle.macs_c.proofs.Steps.{◌≡◌, ℕ, List, [], ◌∷◌, refl, sym, Bool, true, Option, Some, None, IsSome, Ura, full_share, ent, sep, Logic, sem, ‵, ◌$◌, ◌∵◌, !, qed, done, rewrite, fjoin, fpack, feq_i, move, nothing, Ptr, block_ptr, lies_at, part_at, mem, cell_at}
+use Rattle.macs_c.proofs.Steps.{◌≡◌, ℕ, List, [], ◌∷◌, refl, sym, Bool, true, Option, Some, None, IsSome, Ura}
+use Rattle.macs_c.proofs.Steps.{full_share, ent, sep, Logic, sem, ‵, ◌$◌, ◌∵◌, !, qed, done, rewrite, fjoin, fpack}
+use Rattle.macs_c.proofs.Steps.{feq_i, move, nothing, Ptr, block_ptr, lies_at, part_at, mem, cell_at}
 use lib.Dec.{T}
 use denote.Memory.{part_of}
 use mir.Syntax.{Ty}
@@ -33,11 +35,14 @@ one_val τ (v ∷ u ∷ vs) t = absurd t.1
 
 module _ {M : Type 1} {𝓤 : Ura M} {𝓛 : Logic 𝓤} {K : Type 0} {Γ : List (Item 𝓤)} {G : Goal 𝓤 𝓛.H} where
   -- the fields own only what they are
-  pub fields_in : K → (p : Ptr) (f : Bool) → Step K 𝓛 (‵ ((Struct (shape HO)).own_val (p, (f, tt)) (word p f ∷ [])) ∷ Γ) G Γ G
+  pub fields_in : K → (p : Ptr) (f : Bool)
+      → Step K 𝓛 (‵ ((Struct (shape HO)).own_val (p, (f, tt)) (word p f ∷ [])) ∷ Γ) G Γ G
   fields_in t p f = step (λ s.
-      nothing t $ feq_i t (List Val) (vbool f ∷ []) (vbool f ∷ []) refl $ fjoin t $ feq_i t (List Val) (ptr_val p ∷ []) (ptr_val p ∷ []) refl $ fjoin t $
+      nothing t $ feq_i t (List Val) (vbool f ∷ []) (vbool f ∷ []) refl $ fjoin t $ feq_i t (List Val) (ptr_val p ∷ [])
+      (ptr_val p ∷ []) refl $ fjoin t $
       feq_i t (List Val) (word p f ∷ []) (word p f ∷ []) refl $ fjoin t $
-      fpack t (Valss (RawPtr ∷ bool ∷ [])) (within (shape HO) (p, (f, tt)) (word p f ∷ [])) (ptr_val p ∷ [], (vbool f ∷ [], tt)) $ s)
+      fpack t (Valss (RawPtr ∷ bool ∷ [])) (within (shape HO) (p, (f, tt)) (word p f ∷ []))
+      (ptr_val p ∷ [], (vbool f ∷ [], tt)) $ s)
 
 module _ {M : Type 1} {𝓤 : Ura M} (𝓛 : Logic 𝓤) (h : MacsEndpoint) (b o rb ro : ℕ) where
   -- all of the handle but the value
@@ -45,10 +50,13 @@ module _ {M : Type 1} {𝓤 : Ura M} (𝓛 : Logic 𝓤) (h : MacsEndpoint) (b o
   Rest = cell_at full_share HR.mir (word h.at h.is_open ∷ []) rb ro
 
   -- with a value there it is the handle again
-  pub back : h.at ≡ block_ptr b o → h.is_open ≡ true → (w : R.Denot) → ent 𝓤 (sep 𝓤 (sem 𝓛 ((mem R).own_at w b o)) (sem 𝓛 Rest)) (sem 𝓛 ((mem HR).own_at (with_slot h w) rb ro))
+  pub back : h.at ≡ block_ptr b o → h.is_open ≡ true → (w : R.Denot)
+      → ent 𝓤 (sep 𝓤 (sem 𝓛 ((mem R).own_at w b o)) (sem 𝓛 Rest)) (sem 𝓛 ((mem HR).own_at (with_slot h w) rb ro))
   unfolding part_of
   back e flag w =
       qed 𝓛 (‵ (part_at R full_share w b o) ∷ ‵ Rest ∷ []) ∵
-      rewrite ! 0 (λ (p : Ptr). ‵ (lies_at R full_share p w)) (sym e) refl $ rewrite ! 0 (λ (f : Bool). ‵ (held R f h.at (Some w))) (sym flag) refl $
+      rewrite ! 0 (λ (p : Ptr). ‵ (lies_at R full_share p w)) (sym e) refl $ rewrite ! 0
+      (λ (f : Bool). ‵ (held R f h.at (Some w))) (sym flag) refl $
       fields_in ! h.at h.is_open $ fjoin ! $ move ! (1 ∷ 0 ∷ []) $ fjoin ! $
-      fpack ! (List Val) (λ us. fsep (cell_at full_share HR.mir us rb ro) (HR.own_val (with_slot h w) us)) (word h.at h.is_open ∷ []) $ done !
+      fpack ! (List Val) (λ us. fsep (cell_at full_share HR.mir us rb ro) (HR.own_val (with_slot h w) us))
+      (word h.at h.is_open ∷ []) $ done !

@@ -64,7 +64,8 @@ module _ (honest : Bool) (sectors : List (List ℕ)) where
       → IsOpened honest sectors e
   opened-from s made e begun =
       let there =
-      opened-there image_disk (image_from sectors) (λ _. image-sound sectors) made.0 (told_from sectors honest) e made.1 s
+      opened-there image_disk (image_from sectors) (λ _. image-sound sectors) made.0
+      (told_from sectors honest) e made.1 s
       made.2 begun in
       opened sectors there.0 there.1 honest e there.2
 

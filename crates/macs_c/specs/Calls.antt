@@ -69,7 +69,7 @@ abbrev pub done_after : MacsDone → Result Step StepFault → MacsDone
 done_after old (Ok (Done ticket result)) = record { ticket = ticket; answer = number_of (command_answer result) }
 done_after old result = old
 
--- what a C program says of a device call that it made: 1 if it succeeded
+-- what a C program reports of a device call that it made: 1 if it succeeded
 abbrev pub told : ℕ → Result (Unit {0}) DeviceFault
 told ok = if ok == 1 then Ok tt else Err (record {})
 
@@ -83,12 +83,12 @@ NextFrom old call done answer call' done' new =
     ⊎ ((result : Result Step StepFault) × (answer ≡ step_answer result) × IsStep told_disk old result new
     × (device_in new ≡ device_in old) × (call' ≡ call) × (done' ≡ done_after done result))
 
--- What is told of the call that is awaited fits an honest device.
+-- The report on the pending device call is what an honest device may answer.
 abbrev pub MayTell : E → Moment → List ℕ → ℕ → Type 0
 MayTell e next read ok = (asked : DeviceCall) → IsNextCall e asked → MayBeTold (device_in e) next asked read (told ok)
 
--- The call that was named was made, and the endpoint went on from there, as by a step that made it itself; or none is
--- awaited, since the endpoint is stopped or has no work under way.
+-- The call that was named was made, and the endpoint continues as a step that had made it itself; or none is pending,
+-- since the endpoint is stopped or has no work under way.
 abbrev pub DidFrom : E → Moment → List ℕ → ℕ → MacsDone → Answer → MacsDone → E → Type 0
 DidFrom old next read ok done answer done' new =
     ((answer ≡ code.NoCall) × ((is_stopped old ≡ true) ⊎ IsIdle old.store) × (new ≡ old) × (done' ≡ done))
@@ -104,10 +104,12 @@ NextAnswer (Some old) call done answer call' done' None = ⊥
 NextAnswer (Some old) call done answer call' done' (Some new) =
     NextFrom old.endpoint call done answer call' done' new.endpoint
 
+-- the answer to the device call may be reported, where an endpoint is open
 abbrev pub MayTellThere : Option Slot → Moment → List ℕ → ℕ → Type 0
 MayTellThere None next read ok = Unit {0}
 MayTellThere (Some slot) next read ok = MayTell slot.endpoint next read ok
 
+-- the report of a device call where an endpoint may be open: with none it is refused, and nothing changes
 abbrev pub DidAnswer : Option Slot → Moment → List ℕ → ℕ → MacsDone → Answer → MacsDone → Option Slot → Type 0
 DidAnswer None next read ok done answer done' new = (answer ≡ code.Closed) × (new ≡ None) × (done' ≡ done)
 DidAnswer (Some old) next read ok done answer done' None = ⊥

@@ -13,15 +13,18 @@ use Rattle.macs_c.specs.declared.commands.MacsCommand.{MacsCommand}
 
 -- ---- the choices of a command, by number
 
+-- how received frames are validated
 abbrev pub validate_number : Validate → ℕ
 validate_number Strict = 0
 validate_number Check = 1
 
+-- how sent frames name their channel
 abbrev pub mode_number : SciMode → ℕ
 mode_number Implicit = 0
 mode_number Explicit = 1
 mode_number EndStation = 2
 
+-- replay protection on; or a key that encrypts
 abbrev pub flag_number : Bool → ℕ
 flag_number false = 0
 flag_number true = 1

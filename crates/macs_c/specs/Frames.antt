@@ -41,6 +41,7 @@ pub record Buffer : Type 0 where
   pub octets : List ℕ
   pub written : ℕ
 
+-- the buffer with these octets, beside which this length is stored
 abbrev pub buffer_of : List ℕ → ℕ → Buffer
 buffer_of octets written = record { octets = octets; written = written }
 
@@ -91,12 +92,14 @@ ReceiveFrom old frame out answer out' new =
 
 -- ---- the same where an endpoint may be open
 
+-- a command; with no open endpoint it is refused, and nothing changes
 abbrev pub SubmitAnswer : Option Slot → MacsCommand → ℕ → Answer → ℕ → Option Slot → Type 0
 SubmitAnswer None command ticket answer ticket' new = (answer ≡ code.Closed) × (new ≡ None) × (ticket' ≡ ticket)
 SubmitAnswer (Some old) command ticket answer ticket' None = ⊥
 SubmitAnswer (Some old) command ticket answer ticket' (Some new) =
     SubmitFrom old.endpoint command ticket answer ticket' new.endpoint
 
+-- a plain frame to protect, likewise
 abbrev pub ProtectAnswer : Option Slot → List ℕ → Buffer → ℕ → Answer → Buffer → ℕ → Option Slot → Type 0
 ProtectAnswer None plain out pn answer out' pn' new =
     (answer ≡ code.Closed) × (new ≡ None) × IsKept out out' × (pn' ≡ pn)
@@ -104,6 +107,7 @@ ProtectAnswer (Some old) plain out pn answer out' pn' None = ⊥
 ProtectAnswer (Some old) plain out pn answer out' pn' (Some new) =
     ProtectFrom old.endpoint plain out pn answer out' pn' new.endpoint
 
+-- a received frame, likewise
 abbrev pub ReceiveAnswer : Option Slot → List ℕ → Buffer → Answer → Buffer → Option Slot → Type 0
 ReceiveAnswer None frame out answer out' new = (answer ≡ code.Closed) × (new ≡ None) × IsKept out out'
 ReceiveAnswer (Some old) frame out answer out' None = ⊥

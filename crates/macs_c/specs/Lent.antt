@@ -6,8 +6,10 @@ use Rattle.macs_c.specs.declared.slot.Slot.{Slot}
 use Rattle.macs_c.specs.contracts.handle.MacsEndpoint.{the_row as handle_row}
 use Rattle.macs_c.specs.contracts.slot.Slot.{the_row as slot_row}
 
+-- the handle, whose endpoint is now this one
 abbrev pub with_slot : MacsEndpoint → Slot → MacsEndpoint
 with_slot h w = record h { value = Some w }
 
+-- the endpoint of an open handle is lent: the handle has what the borrower leaves there
 abbrev pub LendsSlot : MutBor MacsEndpoint → MutBor Slot → Fml
 LendsSlot h r = Lends handle_row slot_row h r (with_slot h.now)

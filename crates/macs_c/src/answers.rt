@@ -22,7 +22,7 @@ pub(crate) enum Answer {
     Closed,
     /// An endpoint is already open there.
     Open,
-    /// No device call is awaited.
+    /// No device call is pending.
     NoCall,
     /// The disk has fewer than 1,028 sectors.
     TooSmall,
@@ -70,7 +70,7 @@ pub(crate) enum Answer {
     Refused(Refusal),
 }
 
-/// The number of a refusal of a command, from 0 on.
+/// The number of a refusal of a command, 0 to 11.
 fn refusal_number(refusal: Refusal) -> u32
     ensures number { result ≡ refusal_number refusal }
     ensures few { result ≤ 11 }
@@ -91,7 +91,7 @@ fn refusal_number(refusal: Refusal) -> u32
     }
 }
 
-/// The number of a fault of the transmit channel, from 0 on.
+/// The number of a fault of the transmit channel, 0 to 5.
 fn tx_fault_number(fault: TxFault) -> u32
     ensures number { result ≡ tx_fault_number fault }
     ensures few { result ≤ 5 }
@@ -106,7 +106,7 @@ fn tx_fault_number(fault: TxFault) -> u32
     }
 }
 
-/// The number of a kind of delivery, from 0 on.
+/// The number of a kind of delivery, 0 to 5.
 fn kind_number(kind: Kind) -> u32
     ensures number { result ≡ kind_number kind }
     ensures few { result ≤ 5 }
@@ -121,7 +121,7 @@ fn kind_number(kind: Kind) -> u32
     }
 }
 
-/// The number of a reason to discard a frame, from 0 on.
+/// The number of a reason to discard a frame, 0 to 8.
 fn reason_number(reason: Reason) -> u32
     ensures number { result ≡ reason_number reason }
     ensures few { result ≤ 8 }
@@ -139,7 +139,7 @@ fn reason_number(reason: Reason) -> u32
     }
 }
 
-/// The return code of a verdict.
+/// The return code of a verdict, 80 to 95.
 fn verdict_number(verdict: Verdict) -> u32
     ensures { result ≡ verdict_number verdict }
 {

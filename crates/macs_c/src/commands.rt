@@ -14,7 +14,8 @@ pub struct MacsCommand {
     /// 1 set-validate, 2 set-replay, 3 set-sci-mode, 4 tx-install, 5 tx-use, 6 tx-remove, 7 rx-add,
     /// 8 rx-drop, 9 rx-install, 10 rx-remove.
     pub kind: u32,
-    /// The first packet number of an association that is installed (4, 9).
+    /// The first packet number of an association that is installed (4, 9): 0 is refused when the
+    /// command's turn comes.
     pub start: u32,
     /// The replay window, in packet numbers (2).
     pub window: u32,
@@ -23,11 +24,12 @@ pub struct MacsCommand {
     /// Strict 0 or check 1 (1); replay protection off 0 or on 1 (2); implicit 0, explicit 1 or end
     /// station 2 (3); integrity alone 0 or confidentiality 1 (4).
     pub choice: u8,
-    /// The confidentiality offset in octets (4, 9).
+    /// The confidentiality offset in octets (4, 9): all but 0, 30 and 50 are refused when the
+    /// command's turn comes.
     pub offset: u8,
     /// The receive channel (7, 8, 9, 10).
     pub sci: MacsSci,
-    /// The key (4, 9).
+    /// The key, of 16 or 32 octets (4, 9).
     pub key: MacsKey,
 }
 
@@ -43,7 +45,7 @@ fn flag_of(choice: u8) -> Option<bool>
     }
 }
 
-/// What is done with received frames that do not verify.
+/// What is done with received frames that do not verify. `None` for a choice above 1.
 fn set_validate(command: &MacsCommand) -> Option<Command>
     requires { command.now.kind ≡ 1 }
     ensures { NamesCommand command.now result }
@@ -55,7 +57,7 @@ fn set_validate(command: &MacsCommand) -> Option<Command>
     }
 }
 
-/// Replay protection and its window.
+/// Replay protection and its window. `None` for a choice above 1.
 fn set_replay(command: &MacsCommand) -> Option<Command>
     requires { command.now.kind ≡ 2 }
     ensures { NamesCommand command.now result }
@@ -67,7 +69,7 @@ fn set_replay(command: &MacsCommand) -> Option<Command>
     })
 }
 
-/// How transmitted frames name the channel.
+/// How transmitted frames name the channel. `None` for a choice above 2.
 fn set_sci_mode(command: &MacsCommand) -> Option<Command>
     requires { command.now.kind ≡ 3 }
     ensures { NamesCommand command.now result }
@@ -80,7 +82,8 @@ fn set_sci_mode(command: &MacsCommand) -> Option<Command>
     }
 }
 
-/// A new transmit association.
+/// A new transmit association. `None` for an association number above 3, a key that has neither 16
+/// nor 32 octets, or a choice above 1.
 fn tx_install(command: &MacsCommand) -> Option<Command>
     requires { command.now.kind ≡ 4 }
     ensures { NamesCommand command.now result }
@@ -97,7 +100,7 @@ fn tx_install(command: &MacsCommand) -> Option<Command>
     })
 }
 
-/// The transmit association that is used.
+/// The transmit association that is used. `None` for a number above 3.
 fn tx_use(command: &MacsCommand) -> Option<Command>
     requires { command.now.kind ≡ 5 }
     ensures { NamesCommand command.now result }
@@ -106,7 +109,7 @@ fn tx_use(command: &MacsCommand) -> Option<Command>
     Some(Command::TxUse { an })
 }
 
-/// A transmit association that is removed.
+/// A transmit association that is removed. `None` for a number above 3.
 fn tx_remove(command: &MacsCommand) -> Option<Command>
     requires { command.now.kind ≡ 6 }
     ensures { NamesCommand command.now result }
@@ -115,7 +118,8 @@ fn tx_remove(command: &MacsCommand) -> Option<Command>
     Some(Command::TxRemove { an })
 }
 
-/// A new receive association.
+/// A new receive association. `None` for an association number above 3, or a key that has neither
+/// 16 nor 32 octets.
 fn rx_install(command: &MacsCommand) -> Option<Command>
     requires { command.now.kind ≡ 9 }
     ensures { NamesCommand command.now result }
@@ -131,7 +135,7 @@ fn rx_install(command: &MacsCommand) -> Option<Command>
     })
 }
 
-/// A receive association that is removed.
+/// A receive association that is removed. `None` for a number above 3.
 fn rx_remove(command: &MacsCommand) -> Option<Command>
     requires { command.now.kind ≡ 10 }
     ensures { NamesCommand command.now result }

@@ -13,9 +13,9 @@ use macs_endpoint::{Step, StepFault};
 pub struct MacsCall {
     /// 1 to read a sector, 2 to write one, 3 to sync: to make every sector durable.
     pub kind: u32,
-    /// The number of the sector that is read or written.
+    /// The number of the sector that is read or written, from 0 on. A sync leaves it as it was.
     pub sector: u64,
-    /// What is written.
+    /// The octets that are written. A read and a sync leave them as they were.
     pub octets: [u8; 512],
 }
 
@@ -23,9 +23,9 @@ pub struct MacsCall {
 #[repr(C)]
 #[derive(Clone, Copy)]
 pub struct MacsDone {
-    /// The ticket of the command.
+    /// The ticket of the command, from 1 on.
     pub ticket: u64,
-    /// How it ended, as a return code.
+    /// How it ended, as a return code: 0, 56 or 100 to 111.
     pub answer: u32,
 }
 
@@ -65,7 +65,8 @@ pub(crate) fn say_done(stepped: &Result<Step, StepFault>, done: &mut MacsDone)
     }
 }
 
-/// What a C program says of a device call that it made: 1 if it succeeded.
+/// What a C program reports of a device call that it made: 1 if it succeeded, any other number if
+/// it failed.
 pub(crate) fn told(ok: u32) -> Result<(), DeviceFault>
     ensures { result ≡ told ok }
 {

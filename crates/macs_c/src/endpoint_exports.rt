@@ -14,24 +14,34 @@ use crate::starting::{begin, store_of};
 use crate::stepping::{did_call, next_call};
 use std::mem::{align_of, size_of};
 
-// What `include/macsec.h` says.
-const _: () = prove!(size_of::<Slot>() == 263_440 && align_of::<Slot>() == 16);
+/// How many octets an endpoint takes: `MACS_ENDPOINT` of `include/macsec.h`.
+const SIZE: usize = 263_440;
 
-/// How many octets an endpoint takes: `MACS_ENDPOINT`.
+/// How many octets the address of its memory is a multiple of: `MACS_ENDPOINT_ALIGNMENT`.
+const ALIGNMENT: usize = 16;
+
+const _: () = prove!(size_of::<Slot>() == SIZE && align_of::<Slot>() == ALIGNMENT);
+
+/// How many octets an endpoint takes.
 #[unsafe(no_mangle)]
-pub extern "C" fn macs_endpoint_size() -> usize {
-    size_of::<Slot>()
+pub extern "C" fn macs_endpoint_size() -> usize
+    ensures { result ≡ 263440 }
+{
+    SIZE
 }
 
-/// The alignment of its memory: `MACS_ENDPOINT_ALIGNMENT`.
+/// How many octets the address of its memory is a multiple of.
 #[unsafe(no_mangle)]
-pub extern "C" fn macs_endpoint_alignment() -> usize {
-    align_of::<Slot>()
+pub extern "C" fn macs_endpoint_alignment() -> usize
+    ensures { result ≡ 16 }
+{
+    ALIGNMENT
 }
 
 /// Opens an endpoint in the caller's memory, from all sectors of its disk as reads give them after
-/// a sync that succeeded. Returns 0, or the code of a refusal: then nothing is open there, as
-/// before; or that an endpoint is open there already, which stays as it is.
+/// a sync that succeeded. Returns 0, or the code of the first that holds: an endpoint is open there
+/// already, which stays as it is; there are fewer than 1,028 sectors; no head gate is open; the
+/// journal is not valid; it is of format one. Then nothing changes.
 #[unsafe(no_mangle)]
 pub extern "C" fn macs_open(endpoint: &mut MacsEndpoint, sectors: &[[u8; 512]]) -> u32
     ghost honest: { Bool }
@@ -50,10 +60,11 @@ pub extern "C" fn macs_open(endpoint: &mut MacsEndpoint, sectors: &[[u8; 512]]) 
     }
 }
 
-/// Goes on with the pending work of an endpoint, up to its next device call, which is stored in
-/// `call`. It stays the same until `macs_did_call`; frames and commands may come between. If a step
-/// needs no device call, it is complete, and a command that it completed is stored in `done`. No
-/// device call is made.
+/// Continues the work of an endpoint, or begins what is due, up to its next device call, which is
+/// stored in `call`. The call stays the same until `macs_did_call`; frames and commands may come in
+/// between. If a step needs no device call, it is complete: its code is returned, and a command
+/// that it completed is stored in `done`. If no endpoint is open nothing changes. No device call is
+/// made.
 #[unsafe(no_mangle)]
 pub extern "C" fn macs_next_call(
     endpoint: &mut MacsEndpoint,
@@ -71,9 +82,10 @@ pub extern "C" fn macs_next_call(
     number_of(next_call(&mut slot.endpoint, call, done))
 }
 
-/// Goes on after the device call that `macs_next_call` named was made: `ok` is 1 if it succeeded,
-/// and `read` is what it read. A command that is completed is stored in `done`. If no device call
-/// is awaited nothing changes.
+/// Continues after the device call that `macs_next_call` named was made: `ok` is 1 if it succeeded,
+/// any other number if it failed, and `read` is what a read gave. Returns the code of the step; a
+/// command that it completed is stored in `done`. After a call that failed the endpoint is stopped.
+/// If no endpoint is open, or no device call is pending, nothing changes.
 #[unsafe(no_mangle)]
 pub extern "C" fn macs_did_call(
     endpoint: &mut MacsEndpoint,
@@ -94,7 +106,9 @@ pub extern "C" fn macs_did_call(
     number_of(did_call(&mut slot.endpoint, read, ok, done))
 }
 
-/// Forgets the endpoint: its memory is the caller's again, with the keys in it.
+/// Closes the endpoint, if one is open: its memory is the caller's again, with the keys in it. Its
+/// pending commands are lost, but for the one that is under way, which the next opening finds or
+/// not.
 #[unsafe(no_mangle)]
 pub extern "C" fn macs_close(endpoint: &mut MacsEndpoint)
     ensures { endpoint.new.value ≡ None }

@@ -24,10 +24,10 @@ pub extern "C" fn macs_key_new(octets: &[u8], key: &mut MacsKey) -> u32
     if keep(octets, key) { 0 } else { 1 }
 }
 
-/// Reads the SecTAG of a protected frame (9.3 to 9.9) before any key is looked for. Stores in `tag`
-/// its AN, its PN, whether User Data are encrypted, how it names its channel, and the SCI that it
-/// names: zeros if it names none. `offset` is 0: no SecTAG says it. Returns 0, or the code of the
-/// first fault of the frame: then `tag` is unchanged.
+/// Reads the SecTAG of a protected frame (9.3 to 9.9), so that its key can be looked up. Stores in
+/// `tag` its AN, its PN, whether User Data are encrypted, how it names its channel, and the SCI
+/// that it names: zeros if it names none. `offset` is 0, since a SecTAG does not carry it. Returns
+/// 0, or the code of the first fault of the frame, 3, 4 or 6 to 8: then `tag` is unchanged.
 #[unsafe(no_mangle)]
 pub extern "C" fn macs_read_tag(frame: &[u8], tag: &mut MacsTag) -> u32
     ensures { (answer : Option Refusal) × (result ≡ code_of answer)
@@ -43,7 +43,8 @@ pub extern "C" fn macs_read_tag(frame: &[u8], tag: &mut MacsTag) -> u32
 }
 
 /// Protects a plain frame (10.5) into `out`, and stores its length in octets in `written`. Returns
-/// 0, or the code of the first refusal that applies: then `out` and `written` are unchanged.
+/// 0, or the code of the first refusal that applies, 1 to 5: then `out` and `written` are
+/// unchanged.
 #[unsafe(no_mangle)]
 pub extern "C" fn macs_seal_frame(
     key: &MacsKey,
@@ -71,8 +72,9 @@ pub extern "C" fn macs_seal_frame(
 }
 
 /// Opens a protected frame (10.6) into `out`, and stores in `opened` the contents of its SecTAG and
-/// the length of the plain frame in octets. Returns 0, or the code of a refusal: then `out` and
-/// `opened` are unchanged.
+/// the length of the plain frame in octets. Returns 0, or the code of the first refusal that
+/// applies, 1 to 4 or 6 to 10, or else 5, if `out` is too small: then `out` and `opened` are
+/// unchanged.
 #[unsafe(no_mangle)]
 pub extern "C" fn macs_open_frame(
     key: &MacsKey,

@@ -11,6 +11,7 @@ use macs_frame::{ScName, SecTag};
 #[repr(C)]
 #[derive(Clone, Copy)]
 pub struct MacsSci {
+    /// The address as it is sent, then the port, the more significant octet first.
     pub octets: [u8; 8],
 }
 
@@ -38,13 +39,13 @@ pub struct MacsTag {
 pub struct MacsOpened {
     /// How many octets the plain frame has.
     pub octets: usize,
-    /// The packet number in its SecTAG.
+    /// The packet number in its SecTAG, 1 to 2^32 - 1.
     pub pn: u32,
-    /// The association number in its SecTAG.
+    /// The association number in its SecTAG, 0 to 3.
     pub an: u8,
 }
 
-/// How a SecTAG names its channel.
+/// How a SecTAG names its channel. A number above 2, which `tag_from_c` refuses, counts as 0.
 fn name_of(tag: &MacsTag) -> ScName
     ensures { result ≡ name_of tag.now }
 {

@@ -54,8 +54,8 @@ pub extern "C" fn macs_protect(
     number_of(protect(&mut slot.endpoint, plain, out, written, pn))
 }
 
-/// The verdict on a frame from the common side (10.6), of any length. A frame that is delivered is
-/// put into `out`, and its length in octets is stored in `written`; with any other verdict 0 is.
+/// The verdict on a frame from the protected side (10.6), of any length. A frame that is delivered
+/// is put into `out`, and its length in octets is stored in `written`; with any other verdict 0 is.
 /// Returns the code of the verdict, or of the first that holds: no endpoint is open, `out` has
 /// fewer than 9,216 octets, the endpoint is stopped. Then nothing is stored.
 #[unsafe(no_mangle)]

@@ -9,7 +9,8 @@ use macs_disk::ToldDisk;
 use macs_endpoint::Endpoint;
 use macs_frame::{FrameBuf, MAX_FRAME};
 
-/// Queues a command, and stores its ticket.
+/// Queues a command, and stores its ticket. Otherwise nothing changes: `Field`, if a field is out
+/// of its range, or why the endpoint does not take it.
 pub(crate) fn submit(
     endpoint: &mut Endpoint<ToldDisk>,
     command: &MacsCommand,
@@ -41,7 +42,9 @@ fn put_frame(frame: &FrameBuf, out: &mut [u8], written: &mut usize)
     *written = count;
 }
 
-/// Protects a plain frame into a buffer, and stores its length and its packet number.
+/// Protects a plain frame into a buffer, and stores its length in octets and its packet number.
+/// Otherwise nothing is stored: `Room`, if the buffer has fewer than 9,216 octets, or why the
+/// endpoint does not send it.
 pub(crate) fn protect(
     endpoint: &mut Endpoint<ToldDisk>,
     plain: &[u8],
@@ -66,7 +69,9 @@ pub(crate) fn protect(
     }
 }
 
-/// The verdict on a frame from the common side. What is delivered is put into a buffer.
+/// The verdict on a frame from the common side. What is delivered is put into a buffer, and its
+/// length in octets is stored. Nothing is stored with `Room`, if the buffer has fewer than 9,216
+/// octets, and with `Stopped`.
 pub(crate) fn receive(
     endpoint: &mut Endpoint<ToldDisk>,
     frame: &[u8],

@@ -26,7 +26,7 @@ impl Model for MacsEndpoint {
 impl MacsEndpoint {
     ghost use Rattle.macs_c.specs.Lent.{LendsSlot};
 
-    /// The endpoint that lies there.
+    /// The endpoint that lies there, of which there must be one.
     pub(crate) fn get(&mut self) -> &mut Slot
         requires open { IsSome self.old.value }
         ensures* writes_back { sem 𝓛 (LendsSlot self.entry result) }
@@ -35,7 +35,7 @@ impl MacsEndpoint {
         unsafe { &mut *(self.at as *mut Slot) }
     }
 
-    /// Puts an endpoint there.
+    /// Puts an endpoint there, where none may be.
     #[inline(always)] // Else it has a place of its own for the endpoint, beside its caller's.
     pub(crate) fn put(&mut self, slot: Slot)
         requires closed { self.old.value ≡ None }

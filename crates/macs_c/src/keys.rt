@@ -10,7 +10,9 @@ use macs_aes::Key;
 /// A key of GCM-AES-128 or of GCM-AES-256 (14.5 and 14.6): its first `length` octets, 16 or 32.
 #[repr(C)]
 pub struct MacsKey {
+    /// The octets of the key, first those that the standard writes first.
     pub octets: [u8; 32],
+    /// How many of them are the key: 16 or 32.
     pub length: u32,
 }
 
@@ -26,8 +28,8 @@ pub(crate) fn key_of(key: &MacsKey) -> Option<Key>
     Key::from_slice(&key.octets[..length])
 }
 
-/// Stores a key of 16 or 32 octets. Returns whether the length is valid; if not, `key` is
-/// unchanged.
+/// Stores a key of 16 or 32 octets, and leaves the other octets of `key` as they were. Returns
+/// whether the length is valid; if not, `key` is unchanged.
 pub(crate) fn keep(octets: &[u8], key: &mut MacsKey) -> bool
     ensures exactly { IsTrue result ↔ IsKeyLength (length octets.now) }
     ensures kept { OnTrue result ((is_key key.new ≡ true) × (key_octets key.new ≡ octets.now)) }

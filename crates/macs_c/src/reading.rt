@@ -1,4 +1,4 @@
-//! Reading the SecTAG of a frame, before any key is looked for.
+//! Reading the SecTAG of a frame, so that its key can be looked up.
 
 ghost use Rattle.std.specs.Prelude.{◌≡◌, ◌≤◌, ℕ, IfErr, IfOk, length, unwrap_or};
 ghost use Rattle.macs_frame.specs.Opening.{named_sci};
@@ -10,7 +10,8 @@ use crate::refusals::Refusal;
 use macs_fields::Sci;
 use macs_frame::{ScName, TagFault, end_station_sci, read_tag};
 
-/// The SCI that a SecTAG names; zeros if it leaves the channel to the receiver (9.5, 9.9).
+/// The SCI that the SecTAG of a frame of 12 octets or more names; zeros if it leaves the channel to
+/// the receiver (9.5, 9.9).
 fn sci_named(frame: &[u8], name: ScName) -> MacsSci
     requires { 12 ≤ length frame.now }
     ensures { result.octets ≡ unwrap_or (named_sci frame.now name) no_sci }

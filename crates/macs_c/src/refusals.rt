@@ -6,13 +6,13 @@ ghost use Rattle.macs_c.specs.Refusals.{code_of};
 /// Why a frame is not sealed or not opened.
 #[derive(Clone, Copy)]
 pub(crate) enum Refusal {
-    /// The key was not made by `macs_key_new`.
+    /// The key has neither 16 nor 32 octets.
     Key,
     /// A field is out of its range.
     Field,
     /// The frame has fewer than 14 octets.
     Runt,
-    /// The frame has more than 9,216 octets, or would have.
+    /// The frame has more than 9,216 octets, or would have once it is protected.
     Oversize,
     /// The buffer is too small for the resulting frame.
     Room,
@@ -28,7 +28,7 @@ pub(crate) enum Refusal {
     NotValid,
 }
 
-/// The return code.
+/// The return code: 0, or 1 to 10.
 pub(crate) fn code_of(refusal: Option<Refusal>) -> u32
     ensures { result ≡ code_of refusal }
 {

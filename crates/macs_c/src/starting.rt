@@ -12,7 +12,8 @@ use macs_journal::JournalFault;
 use macs_store::Store;
 
 /// Reads what an endpoint keeps from all sectors of its disk, and moves it to a disk with these
-/// sectors, whose calls somebody else makes.
+/// sectors, whose calls somebody else makes. Fails with `TooSmall`, `NotFormatted` or `BadJournal`;
+/// and with `Disk` or `GenerationsSpent` at a journal of format one, since nothing can be written.
 #[inline(never)]
 pub(crate) fn store_of(sectors: &[[u8; 512]]) -> Result<Store<ToldDisk>, JournalFault>
     ghost honest: { Bool }
@@ -24,7 +25,7 @@ pub(crate) fn store_of(sectors: &[[u8; 512]]) -> Result<Store<ToldDisk>, Journal
     }
 }
 
-/// Puts the endpoint there that begins with what was read.
+/// Puts the endpoint there that begins with what was read. None may be open there.
 #[inline(never)]
 pub(crate) fn begin(endpoint: &mut MacsEndpoint, store: Store<ToldDisk>)
     requires closed { endpoint.old.value ≡ None }

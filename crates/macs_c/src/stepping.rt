@@ -9,7 +9,8 @@ use crate::device_calls::{MacsCall, MacsDone, say, say_done, told};
 use macs_disk::ToldDisk;
 use macs_endpoint::Endpoint;
 
-/// Begins what is due, unless work is under way, and names its next device call.
+/// Begins what is due, unless work is under way, and names its next device call: `Call`. Or returns
+/// the answer of a step that needs none.
 pub(crate) fn next_call(
     endpoint: &mut Endpoint<ToldDisk>,
     call: &mut MacsCall,
@@ -28,7 +29,8 @@ pub(crate) fn next_call(
     Answer::Call
 }
 
-/// Goes on after the device call that was named: with whether it succeeded, and what it read.
+/// Continues after the device call that was named: with whether it succeeded, and what it read.
+/// Returns `NoCall`, and changes nothing, if none is pending.
 pub(crate) fn did_call(
     endpoint: &mut Endpoint<ToldDisk>,
     read: &[u8; 512],

@@ -30,7 +30,8 @@ returns-in-Err g c =
     let refused = refused-from g.honest c.args.sectors.now c.in-Err.fault c.in-Err.ensures in (
       c.open_answer.result,
       c.number_of-in-Err.ensures,
-      refused-there g.honest c.args.sectors.now c.args.endpoint.now.value _ c.open_answer.result c.in-Err.fault refused.0
+      refused-there g.honest c.args.sectors.now c.args.endpoint.now.value _ c.open_answer.result
+          c.in-Err.fault refused.0
           (none-there c.args.endpoint.now.value (sym c.is_open.ensures.0 ∙ c.if-is_open.false))
           (ap (λ (h : MacsEndpoint). h.value) c.is_open.ensures.1) c.open_answer.ensures refused.1,
     )

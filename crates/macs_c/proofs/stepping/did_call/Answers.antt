@@ -28,7 +28,8 @@ pub returns : goal.returns
 returns g c =
     let went =
     went-on c.args.endpoint.now g.next c.args.read.now c.args.ok c.in-Some.call c.in-Some.ensures.call
-    c.disk-disk.result.now c.disk-disk.ensures.disk c.told-said.result c.told-said.ensures c.after-later.result c.after-later.ensures
+    c.disk-disk.result.now c.disk-disk.ensures.disk c.told-said.result c.told-said.ensures c.after-later.result
+    c.after-later.ensures
     c.hear-answer.result c.hear-answer.ensures c.replace_disk.new.self c.replace_disk.ensures.same
     c.did_call-stepped.new.self c.did_call-stepped.result c.did_call-stepped.ensures in
     inr (c.did_call-stepped.result, c.step_answer.ensures, went.0, went.1, c.say_done.ensures)

@@ -1,4 +1,9 @@
-use Rattle.macs_c.proofs.Steps.{List, [], ◌∷◌, refl, false, None, proved, full_share, ftrue, flft, named, Val, vunit, tables, ‵, ◌⊛◌, ◌$◌, ◌∵◌, !, qed, done, move, keep, drop, use1, split, join, fsplit, fsplit3, fjoin, feq_i, rewrite, suffices, frame, group, enter, of_opd, stop, fld, assigns, returns, unit_lit, alloc_all, pass_all, free_all, look_at, through, sets, sub, whole, shows, MutRef, mut_vals, mut_Tells, plain, nothing, opens, closes, peeks, Stays, walk_of, says, stay_ref, Goes-ref, ends_at, cell_at, room_at}
+use Rattle.macs_c.proofs.Steps.{List, [], ◌∷◌, refl, false, None, proved, full_share, ftrue, flft, named, Val, vunit}
+use Rattle.macs_c.proofs.Steps.{tables, ‵, ◌⊛◌, ◌$◌, ◌∵◌, !, qed, done, move, keep, drop, use1, split, join, fsplit}
+use Rattle.macs_c.proofs.Steps.{fsplit3, fjoin, feq_i, rewrite, suffices, frame, group, enter, of_opd, stop, fld}
+use Rattle.macs_c.proofs.Steps.{assigns, returns, unit_lit, alloc_all, pass_all, free_all, look_at, through, sets, sub}
+use Rattle.macs_c.proofs.Steps.{whole, shows, MutRef, mut_vals, mut_Tells, plain, nothing, opens, closes, peeks, Stays}
+use Rattle.macs_c.proofs.Steps.{walk_of, says, stay_ref, Goes-ref, ends_at, cell_at, room_at}
 use types.Run.{false_lit}
 use types.Part.{store_in}
 use Rattle.macs_c.proofs.Held.{held_room}
@@ -29,11 +34,13 @@ close_spec 𝓤 𝓛 𝓜 𝓡 wired =
     use1 𝓛 (‵ (room_at R h.at)) (held_room 𝓛 R refl h.is_open h.at h.value) $
     let Cell = λ (ws : List Val). ‵ (cell_at full_share HR.mir ws rb ro) in
     rewrite ! 1 Cell (lowers.val_is h us is) refl $
-    assigns ! (of_opd ! (false_lit !)) (through ! refl (fld ! refl (stop !))) (store_in ! 1 (sub ! 1 refl (whole !)) (tt, tt)) $
+    assigns ! (of_opd ! (false_lit !)) (through ! refl (fld ! refl (stop !)))
+    (store_in ! 1 (sub ! 1 refl (whole !)) (tt, tt)) $
     sets ! (of_opd ! (unit_lit !)) refl (tt, tt) $
     let h' = record h { is_open = false; value = None } in
     fields_in ! h.at false $ fjoin ! $ move ! (1 ∷ []) $ closes ! tt HR h' (word h.at false ∷ []) rb ro $
     returns ! (look_at ! 0 refl) $ free_all ! refl $ move ! (3 ∷ []) $
     suffices ! _ (ends_at 𝓛 f.ended stayed c y vunit tt (h', tt) (tt, tt)) $ says ! refl $
-    group ! 3 $ nothing ! $ move ! (1 ∷ 0 ∷ []) $ join ! $ nothing ! $ move ! (2 ∷ 0 ∷ []) $ join ! $ frame ! $ frame ! $
+    group ! 3 $ nothing ! $ move ! (1 ∷ 0 ∷ []) $ join ! $ nothing ! $ move ! (2 ∷ 0 ∷ []) $ join ! $ frame
+    ! $ frame ! $
     feq_i ! _ (vunit ∷ []) _ refl $ done !))))

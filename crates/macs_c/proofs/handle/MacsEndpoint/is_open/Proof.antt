@@ -1,4 +1,9 @@
-use Rattle.macs_c.proofs.Steps.{List, [], ◌∷◌, ◌≡◌, refl, proved, full_share, ftrue, flft, named, Val, tables, ‵, given, ◌⊛◌, ◌$◌, ◌∵◌, !, qed, done, move, keep, drop, use1, split, join, fsplit, fsplit3, fjoin, learn, rewrite, suffices, frame, group, enter, of_opd, load, stop, fld, returns, alloc_all, pass_all, free_all, look_at, through, sets, look_in, sub, whole, bool, shows, MutRef, mut_vals, mut_Tells, plain, nothing, owned, opens, closes, peeks, Stays, walk_of, says, stay_ref, Goes-ref, ends_at, cell_at, is_some}
+use Rattle.macs_c.proofs.Steps.{List, [], ◌∷◌, ◌≡◌, refl, proved, full_share, ftrue, flft, named, Val, tables, ‵, given}
+use Rattle.macs_c.proofs.Steps.{◌⊛◌, ◌$◌, ◌∵◌, !, qed, done, move, keep, drop, use1, split, join, fsplit, fsplit3}
+use Rattle.macs_c.proofs.Steps.{fjoin, learn, rewrite, suffices, frame, group, enter, of_opd, load, stop, fld, returns}
+use Rattle.macs_c.proofs.Steps.{alloc_all, pass_all, free_all, look_at, through, sets, look_in, sub, whole, bool, shows}
+use Rattle.macs_c.proofs.Steps.{MutRef, mut_vals, mut_Tells, plain, nothing, owned, opens, closes, peeks, Stays}
+use Rattle.macs_c.proofs.Steps.{walk_of, says, stay_ref, Goes-ref, ends_at, cell_at, is_some}
 use denote.Plain.{bool_Makes}
 use Rattle.macs_c.specs.Held.{held}
 use Rattle.macs_c.proofs.Held.{held_flag}
@@ -26,12 +31,16 @@ is_open_spec 𝓤 𝓛 𝓜 𝓡 wired =
     enter ! _ _ _ _ _ $ alloc_all ! (λ l. pass_all ! refl ((tt, tt), tt) $
     fsplit3 ! $ move ! (1 ∷ 2 ∷ 3 ∷ []) $ opens ! tt HR rb ro (λ us.
     move ! (1 ∷ []) $ peeks ! HR _ (shows 𝓛 HR) h us (λ is. fsplit ! $ drop ! $
-    use1 𝓛 (given (h.is_open ≡ is_some h.value) (‵ (held R h.is_open h.at h.value))) (held_flag 𝓛 R h.is_open h.at h.value) $ learn ! (λ flag.
+    use1 𝓛 (given (h.is_open ≡ is_some h.value) (‵ (held R h.is_open h.at h.value)))
+    (held_flag 𝓛 R h.is_open h.at h.value) $ learn ! (λ flag.
     let Cell = λ (ws : List Val). ‵ (cell_at full_share HR.mir ws rb ro) in
     rewrite ! 1 Cell (lowers.val_is h us is) refl $
-    sets ! (of_opd ! (load ! (through ! refl (fld ! refl (stop !))) (look_in ! 1 (sub ! 1 refl (whole !))))) refl (tt, tt) $
+    sets ! (of_opd ! (load ! (through ! refl (fld ! refl (stop !))) (look_in ! 1 (sub ! 1 refl (whole !)))))
+    refl (tt, tt) $
     fields_in ! h.at h.is_open $ fjoin ! $ move ! (1 ∷ []) $ closes ! tt HR h (word h.at h.is_open ∷ []) rb ro $
     returns ! (look_at ! 0 refl) $ free_all ! refl $ move ! (3 ∷ []) $
-    suffices ! _ (ends_at 𝓛 f.ended stayed c y (mir.Val.vbool h.is_open) h.is_open (h, tt) (tt, tt)) $ says ! (flag, refl) $
-    group ! 3 $ nothing ! $ move ! (1 ∷ 0 ∷ []) $ join ! $ nothing ! $ move ! (2 ∷ 0 ∷ []) $ join ! $ frame ! $ frame ! $
+    suffices ! _ (ends_at 𝓛 f.ended stayed c y (mir.Val.vbool h.is_open) h.is_open (h, tt) (tt, tt)) $ says !
+    (flag, refl) $
+    group ! 3 $ nothing ! $ move ! (1 ∷ 0 ∷ []) $ join ! $ nothing ! $ move ! (2 ∷ 0 ∷ []) $ join ! $ frame
+    ! $ frame ! $
     owned ! bool _ (bool_Makes 𝓛) h.is_open _ refl $ done !)))))
