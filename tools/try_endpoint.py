@@ -3,10 +3,11 @@
 
     python3 tools/try_endpoint.py PROGRAM FOLDER
 
-The left one and the right one have keys of this run, and disk files in FOLDER. This program is both hosts, and the network between the gateways,
-where it records what the left one sends. It sends frames each way, kills both gateways (SIGKILL), starts them again without commands, and sends
-frames again. Then it sends every recorded frame to the right gateway once more. No packet number may come twice, each frame has to arrive as it
-was sent, and none again. FOLDER then has `protected.pcap` and `plain.pcap`, for `tools/check_protected.py`, and `key`.
+The left one and the right one have keys of this run, and disk files in FOLDER. Before these are formatted a gateway has to stop, and a second format
+is refused. This program is both hosts, and the network between the gateways, where it records what the left one sends. It sends frames each way,
+kills both gateways (SIGKILL), starts them again without commands, and sends frames again. Then it sends every recorded frame to the right gateway
+once more. No packet number may come twice, each frame has to arrive as it was sent, and none again. FOLDER then has `protected.pcap` and
+`plain.pcap`, for `tools/check_protected.py`, and `key`.
 """
 import os
 import secrets
@@ -88,11 +89,25 @@ def commands(own_key, peer, peer_key):
     return f"tx-install 0 {own_key} 1 0\ntx-use 0\nrx-add {peer}\nrx-install {peer} 0 {peer_key} 1 0\n"
 
 
+def is_refused(*words):
+    return subprocess.run(words, stdout=subprocess.DEVNULL, stderr=subprocess.DEVNULL, timeout=10, check=False).returncode == 1
+
+
+def format_disks(program, folder, network):
+    """A gateway that made a missing disk file itself would use the packet numbers of its keys again."""
+    for end, sci in (("left", LEFT), ("right", RIGHT)):
+        disk = f"{folder}/{end}.disk"
+        assert is_refused(program, disk, *network.words(end), f"{folder}/{end}.commands"), "a gateway runs without a disk file"
+        assert not os.path.exists(disk), "a gateway made a disk file that was not there"
+        subprocess.run([program, "format", disk, sci], check=True)
+        assert is_refused(program, "format", disk, sci), "a disk file was formatted twice"
+
+
 def start(program, folder, network, first):
     """Both gateways, once their commands are kept and their wires bound."""
     running = []
-    for end, sci in (("left", LEFT), ("right", RIGHT)):
-        words = [program, f"{folder}/{end}.disk", sci, *network.words(end), *([f"{folder}/{end}.commands"] if first else [])]
+    for end in ("left", "right"):
+        words = [program, f"{folder}/{end}.disk", *network.words(end), *([f"{folder}/{end}.commands"] if first else [])]
         with open(f"{folder}/{end}.log", "a", encoding="utf-8") as log:
             it = subprocess.Popen(words, stdout=subprocess.PIPE, stderr=log, text=True)
         if first:
@@ -144,6 +159,7 @@ def main():
     for end, own, peer, other in (("left", keys[0], RIGHT, keys[1]), ("right", keys[1], LEFT, keys[0])):
         with open(f"{folder}/{end}.commands", "w", encoding="utf-8") as file:
             file.write(commands(own, peer, other))
+    format_disks(program, folder, network)
     running = start(program, folder, network, True)
     sent = exchange(network, 0)
     kill(running)
@@ -169,7 +185,8 @@ def main():
     capture(f"{folder}/plain.pcap", [it for it in sent + late if it[6:12] == bytes.fromhex(LEFT[:12])])
     with open(f"{folder}/key", "w", encoding="utf-8") as file:
         file.write(keys[0])
-    print(f"{len(sent + late)} frames sent, {lost} late after the kill, {len(numbers)} packet numbers, none twice; none of {len(numbers)} arrived again")
+    print(f"{len(sent + late)} frames sent, {lost} late after the kill, {len(numbers)} packet numbers, none twice; "
+          f"none of {len(numbers)} arrived again")
 
 
 main()

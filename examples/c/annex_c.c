@@ -1,4 +1,4 @@
-/* The confidential example of IEEE Std 802.1AE-2018, Annex C, opened and sealed again: what docs/LIBRARY.md shows of a program in C. */
+/* Single frames: the confidential example of IEEE Std 802.1AE-2018, Annex C, is opened, and sealed again. */
 #include "macsec.h"
 
 #include <stdio.h>
@@ -19,8 +19,12 @@ static void print_octets(const uint8_t *octets, size_t count) {
     printf("\n");
 }
 
-int main(void) {
-    struct macs_key key;
+/* A key that is no longer used is overwritten. `volatile`: else the compiler may leave that out. */
+static void wipe(struct macs_key *key) {
+    for (size_t i = 0; i < sizeof *key; i++) ((volatile uint8_t *)key)[i] = 0;
+}
+
+static int try_key(struct macs_key *key) {
     struct macs_opened opened;
     struct macs_tag tag = {SCI, 0xb2c28465, 2, MACS_EXPLICIT, 1, 0}, read;
     uint8_t plain[MACS_MAX_FRAME], sealed[MACS_MAX_FRAME];
@@ -30,15 +34,22 @@ int main(void) {
     printf("under key %u of ", (unsigned)read.an);
     print_octets(read.sci.octets, sizeof read.sci.octets);
 
-    if (macs_key_new(KEY, sizeof KEY, &key) != MACS_OK) return 1;
-    if (macs_open_frame(&key, &SCI, 0, FRAME, sizeof FRAME, plain, sizeof plain, &opened) != MACS_OK) return 1;
+    if (macs_key_new(KEY, sizeof KEY, key) != MACS_OK) return 1;
+    if (macs_open_frame(key, &SCI, 0, FRAME, sizeof FRAME, plain, sizeof plain, &opened) != MACS_OK) return 1;
     printf("an %u pn %u\n", (unsigned)opened.an, (unsigned)opened.pn);
     print_octets(plain, opened.octets);
 
-    if (macs_seal_frame(&key, &tag, plain, opened.octets, sealed, sizeof sealed, &count) != MACS_OK) return 1;
+    if (macs_seal_frame(key, &tag, plain, opened.octets, sealed, sizeof sealed, &count) != MACS_OK) return 1;
     printf("the same %d\n", count == sizeof FRAME && memcmp(sealed, FRAME, count) == 0);
 
     sealed[count - 1] ^= 1;
-    printf("changed %u\n", (unsigned)macs_open_frame(&key, &SCI, 0, sealed, count, plain, sizeof plain, &opened));
+    printf("changed %u\n", (unsigned)macs_open_frame(key, &SCI, 0, sealed, count, plain, sizeof plain, &opened));
     return 0;
+}
+
+int main(void) {
+    struct macs_key key;
+    int status = try_key(&key);
+    wipe(&key);
+    return status;
 }

@@ -3,9 +3,11 @@
  *     flash [LIVES [SEED]]
  *
  * In each life the endpoint is opened, sends and receives frames and gets commands, until the power is cut inside a device call, or that
- * call fails. A cut leaves each sector that was written since the last sync as it was, as it was written, torn, or with any octets. A peer
- * sends new frames and repeats old ones. Three counts are printed, which have to be 0: packet numbers that went out twice under one key,
- * completed commands that a later opening did not find, and frames that were delivered twice. The status is then 0. */
+ * call fails. A cut leaves each sector that was written since the last sync as it was, as it was written, torn, or with any octets; a write
+ * that fails leaves its own sector so. A peer sends new frames and repeats old ones. After 100 lives the flash is formatted for another
+ * endpoint, as macsec.h says at macs_format: cuts and calls that fail come there, too, and it begins again until the endpoint opens. Three
+ * counts are printed, which have to be 0: packet numbers that went out twice under one key, completed commands that a later opening did not
+ * find, and frames that were delivered twice. The status is then 0, and 2 if an answer is not as it has to be. */
 #include "macsec.h"
 
 #include <stdio.h>
@@ -46,36 +48,42 @@ static void sync_flash(void) {
     memset(is_pending, 0, sizeof is_pending);
 }
 
-static void cut_power(void) {
+/* Leaves a sector as it was, as it was written, torn, or with any octets. */
+static void leave(struct macs_sector *sector, const uint8_t *written) {
+    size_t from = below(MACS_SECTOR), count = below((uint32_t)(MACS_SECTOR - from) + 1);
+    switch (below(4)) {
+    case 0:
+        break;
+    case 1:
+        memcpy(sector->octets, written, MACS_SECTOR);
+        break;
+    case 2:
+        memcpy(sector->octets + from, written + from, count);
+        break;
+    default:
+        for (size_t i = 0; i < MACS_SECTOR; i++) sector->octets[i] = (uint8_t)below(256);
+    }
+}
+
+/* After the last device call of a life: the power is cut, or the flash synced. */
+static void end_life(void) {
+    if (!ends_by_cut) sync_flash();
     for (size_t n = 0; n < MACS_SECTORS; n++) {
-        size_t from = 0, to = MACS_SECTOR; /* these octets come out as they were written */
-        switch (is_pending[n] ? below(4) : 0) {
-        case 0:
-            to = 0;
-            break;
-        case 1:
-            break;
-        case 2:
-            from = below(MACS_SECTOR);
-            to = from + below((uint32_t)(MACS_SECTOR - from) + 1);
-            break;
-        default:
-            for (size_t i = 0; i < MACS_SECTOR; i++) shown[n].octets[i] = (uint8_t)below(256);
-        }
-        memcpy(durable[n].octets + from, shown[n].octets + from, to - from);
+        if (is_pending[n]) leave(&durable[n], shown[n].octets);
         shown[n] = durable[n];
     }
     memset(is_pending, 0, sizeof is_pending);
 }
 
-/* Makes a device call: whether it succeeded. The one that ends the life may have begun: of a write each octet is then in doubt. */
+/* Makes a device call: whether it succeeded. The one that ends the life may have begun. */
 static bool make(const struct macs_call *call, struct macs_sector *read) {
     bool is_last = calls_left-- == 0;
     expect(call->kind == MACS_SYNC || call->sector < MACS_SECTORS, "sector", 0);
     device_calls++;
     if (call->kind == MACS_READ) *read = shown[call->sector];
-    if (call->kind == MACS_WRITE && !(is_last && below(2))) {
-        memcpy(shown[call->sector].octets, call->octets, MACS_SECTOR);
+    if (call->kind == MACS_WRITE) {
+        if (is_last) leave(&shown[call->sector], call->octets);
+        if (!is_last) memcpy(shown[call->sector].octets, call->octets, MACS_SECTOR);
         is_pending[call->sector] = true;
     }
     if (call->kind == MACS_SYNC && !is_last) sync_flash();
@@ -277,22 +285,57 @@ static bool receive(void) {
     return true;
 }
 
-/* A new flash, with an endpoint of another SCI, and a receive channel for the peer. */
+/* The journal of a new endpoint, as macs_format makes it. */
+static struct macs_sector made[MACS_SECTORS];
+
+static bool write_made(size_t n) {
+    struct macs_call call = {.kind = MACS_WRITE, .sector = n};
+    memcpy(call.octets, made[n].octets, MACS_SECTOR);
+    return make(&call, NULL);
+}
+
+/* Formats the flash: whether no device call failed. */
+static bool format(void) {
+    static const struct macs_call sync = {.kind = MACS_SYNC};
+    bool writes_all = below(4) == 0;
+    uint32_t answer;
+    memcpy(made, shown, sizeof made);
+    while ((answer = macs_format(made, MACS_SECTORS, &identity)) == MACS_FORMATTED) { /* clear sectors until the old journal is gone */
+        size_t n = below(MACS_SECTORS);
+        memset(&made[n], 0, MACS_SECTOR);
+        durable[n] = shown[n] = made[n];
+    }
+    expect(answer == MACS_OK, "format", answer);
+    calls_left = below(below(2) ? 8 : 1000);
+    for (size_t n = 0; n < MACS_SECTORS; n++) {
+        bool is_changed = memcmp(&made[n], &shown[n], MACS_SECTOR) != 0;
+        expect(n <= MACS_FORMAT_LAST || !is_changed, "a sector above MACS_FORMAT_LAST has changed", answer);
+        if (n <= MACS_FORMAT_LAST && n != MACS_HEAD_GATE && (is_changed || writes_all) && !write_made(n)) return false;
+    }
+    calls_left = below(4); /* of the other three */
+    return make(&sync, NULL) && write_made(MACS_HEAD_GATE) && make(&sync, NULL);
+}
+
+/* The flash of a new endpoint, of another SCI, with a receive channel for the peer. */
 static void take_new_flash(uint32_t number) {
     static const struct config none = {.encoding = ANS};
     struct macs_command add = {.kind = MACS_RX_ADD};
     uint64_t ticket;
+    uint32_t answer;
+    bool is_made;
     identity = (struct macs_identity){{{2, 0, 0, 1, (uint8_t)(number >> 8), (uint8_t)number, 0, 1}}, 1 + below(below(2) ? 8 : 64), 1 + below(8)};
     add.sci = peer = (struct macs_sci){{2, 0, 0, 2, (uint8_t)(number >> 8), (uint8_t)number, 0, 1}};
-    memset(shown, 0, sizeof shown);
     memset(&sent, 0, sizeof sent);
     memset(&delivered, 0, sizeof delivered);
-    uint32_t answer = macs_format(shown, MACS_SECTORS, &identity);
-    expect(answer == MACS_OK, "format", answer);
-    memcpy(durable, shown, sizeof durable);
+    do {
+        ends_by_cut = below(4) != 0;
+        is_made = format();
+        end_life();
+        answer = macs_open(&endpoint, shown, MACS_SECTORS);
+        expect(answer == MACS_OK || (!is_made && answer == MACS_NOT_FORMATTED), "open after a format", answer);
+    } while (answer != MACS_OK);
+    expect(shows(&none), "not a new endpoint", answer);
     keys = 0, calls_left = UINT32_MAX, is_queued = is_asked = true, is_over = false, kept = asked = none;
-    answer = macs_open(&endpoint, shown, MACS_SECTORS);
-    expect(answer == MACS_OK, "open", answer);
     answer = macs_submit(&endpoint, &add, &ticket);
     expect(answer == MACS_OK && work() && !is_asked, "first command", answer);
     macs_close(&endpoint);
@@ -329,10 +372,7 @@ int main(int count, char **words) {
         live();
         macs_close(&endpoint);
         memset(endpoint.at, (int)below(256), MACS_ENDPOINT);
-        if (ends_by_cut)
-            cut_power();
-        else
-            sync_flash();
+        end_life();
     }
     printf("seed %llu: %llu lives on %u flashes, %llu device calls\n", (unsigned long long)seed, (unsigned long long)lives, (unsigned)flashes,
            (unsigned long long)device_calls);
