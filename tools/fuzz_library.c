@@ -3,9 +3,12 @@
  *     fuzz_library [CALLS [SEED]]
  *
  * What a call is given and what it writes ends at a page that nobody may touch, and begins after octets that have to stay as they were. Each
- * answer has to be one of those that the header names for the call, and a refusal has to leave the outputs as they were. Half of the frames,
- * commands and sectors are valid ones, or nearly: so the endpoint is opened, gets commands and carries frames. Device calls fail, are not
- * made, or give random octets. It prints how often each call gave each answer. `tools/try_library` compiles it with sanitizers. */
+ * answer has to be one of those that the header names for the call, and a refusal has to leave the outputs as they were. What it reads back
+ * has to fit what was done: SecTAGs, tickets, packet numbers, and the counters, which it keeps too. Half of the frames, commands and sectors
+ * are valid ones, or nearly: so the endpoint is opened, gets commands and carries frames. Device calls fail, are not made, or give random
+ * octets. It prints how often each call gave each answer. `tools/try_library` compiles it with sanitizers.
+ *
+ * Compiled by afl-clang-fast (`tools/fuzz_guided`), it takes what it chooses from the fuzzer's input, and begins each input with a new endpoint. */
 #define _GNU_SOURCE
 #include "macsec.h"
 
@@ -14,8 +17,11 @@
 #include <string.h>
 #include <sys/mman.h>
 
-enum { CODES = 112, CANARY = 64, ROOMS = 6, ROOM = 1 << 20, PAGE = 4096 };
+enum { CODES = 112, CANARY = 64, ROOMS = 6, ROOM = 1 << 20, PAGE = 4096, WINDOWS = 100, ANS = 4 };
 enum { KEY_NEW, READ_TAG, SEAL, OPEN_FRAME, FORMAT, OPEN, CLOSE, SUBMIT, NEXT_CALL, DID_CALL, PROTECT, RECEIVE, SHOW_TX, SHOW_RX, COUNTERS, CALLS };
+
+/* One more than the last packet number. */
+static const uint64_t END_OF_NUMBERS = UINT64_C(1) << 32;
 
 static const char *const NAMES[CALLS] = {"macs_key_new", "macs_read_tag", "macs_seal_frame", "macs_open_frame", "macs_format",
                                          "macs_open",    "macs_close",    "macs_submit",     "macs_next_call",  "macs_did_call",
@@ -45,16 +51,43 @@ static uint64_t counts[CALLS][CODES], state;
 /* The last call that was made. */
 static int last;
 
-static uint32_t below(uint32_t limit) {
+/* Since the opening: how often frames got each answer, the commands by their tickets, how many were queued and completed, and the largest
+ * window that replay protection may have. */
+static struct {
+    uint64_t counts[CODES], queued, completed, window;
+    struct macs_command commands[MACS_QUEUE];
+} life;
+
+static void begin_life(void) {
+    memset(&life, 0, sizeof life);
+    life.window = WINDOWS - 1;
+}
+
+static uint32_t drawn(void) {
     state ^= state >> 12;
     state ^= state << 25;
     state ^= state >> 27;
-    return (uint32_t)((state * UINT64_C(2685821657736338717)) >> 32) % limit;
+    return (uint32_t)((state * UINT64_C(2685821657736338717)) >> 32);
+}
+
+/* The fuzzer's input, if there is one: the choices, octet by octet. */
+static const uint8_t *input;
+static size_t input_left;
+static bool has_ended;
+
+/* A choice of fewer than `limit`. */
+static uint32_t below(uint32_t limit) {
+    if (!input) return drawn() % limit;
+    size_t count = limit <= 256 ? 1 : limit <= 65536 ? 2 : 4;
+    uint32_t choice = 0;
+    if (input_left < count) has_ended = true;
+    for (; !has_ended && count > 0; count--, input_left--) choice = choice << 8 | *input++;
+    return choice % limit;
 }
 
 static void fill(void *at, size_t length) {
     for (uint8_t *it = at; length > 0;) {
-        uint64_t octets = (uint64_t)below(UINT32_MAX) << 32 | below(UINT32_MAX);
+        uint64_t octets = (uint64_t)drawn() << 32 | drawn();
         size_t count = length < 8 ? length : 8;
         memcpy(it, &octets, count);
         it += count, length -= count;
@@ -63,6 +96,7 @@ static void fill(void *at, size_t length) {
 
 static void fail(int call, const char *what, uint32_t answer) {
     printf("%s: %s: answer %u\n", NAMES[call], what, (unsigned)answer);
+    if (input) abort();
     exit(1);
 }
 
@@ -73,6 +107,7 @@ static void note(int call, uint32_t answer) {
         is_known |= (i == 0 || ANSWERS[call][i + 1]) && ANSWERS[call][i] <= answer && answer <= ANSWERS[call][i + 1];
     if (!is_known || answer >= CODES) fail(call, "no answer of this call", answer);
     counts[call][answer]++;
+    if (call == PROTECT || call == RECEIVE) life.counts[answer]++;
 }
 
 /* Rooms that end at a page without access. */
@@ -169,6 +204,17 @@ static size_t some_frame(int i) {
     return length;
 }
 
+/* A protected frame has this SecTAG. */
+static void look_at_tag(int which, const struct macs_tag *tag, const uint8_t *plain, size_t length, const uint8_t *frame, size_t written) {
+    struct macs_tag asked = *tag, said;
+    uint8_t control = (uint8_t)(tag->an | (tag->encrypted ? 0x0C : 0) | (tag->name == MACS_EXPLICIT ? 0x20 : tag->name ? 0x40 : 0));
+    asked.offset = 0;
+    if (tag->name != MACS_EXPLICIT) asked.sci = (struct macs_sci){{0}};
+    if (tag->name == MACS_END_STATION) memcpy(asked.sci.octets, plain + 6, 6), asked.sci.octets[7] = 1;
+    if (macs_read_tag(frame, written, &said) != MACS_OK || memcmp(&said, &asked, sizeof said) != 0) fail(which, "another SecTAG is read", MACS_OK);
+    if (written != length + (tag->name == MACS_EXPLICIT ? 32 : 24) || frame[14] != control) fail(which, "the SecTAG", MACS_OK);
+}
+
 static struct macs_sector disk[MACS_SECTORS];
 static struct macs_endpoint endpoint;
 static struct macs_call call;
@@ -199,6 +245,7 @@ static void fuzz_frames(int which) {
         note(which, answer);
         if (answer != MACS_OK && !is_copy(0, out, space)) fail(which, "the room has changed", answer);
         if (answer == MACS_OK && *written > space) fail(which, "the frame is longer than its room", answer);
+        if (answer == MACS_OK) look_at_tag(which, tag, rooms[2].at, length, out, *written);
     } else {
         struct macs_opened *opened = room(5, sizeof *opened);
         answer = macs_open_frame(key, sci, some_offset(), rooms[2].at, length, out, space, opened);
@@ -229,10 +276,18 @@ static void fuzz_opening(int which) {
         note(which, answer);
         if (endpoint.is_open != (was_open || answer == MACS_OK)) fail(which, "is_open", answer);
         if (answer == MACS_OK) {
+            begin_life();
             has_call = false;
             for (size_t n = 0; n < MACS_SECTORS; n++) disk[n] = it[n];
         }
     }
+}
+
+/* Commands are completed in the order of their tickets. */
+static void look_at_done(int which, const struct macs_done *done) {
+    const struct macs_command *command = &life.commands[done->ticket % MACS_QUEUE];
+    if (done->ticket != ++life.completed || done->ticket > life.queued) fail(which, "no ticket of a pending command", done->answer);
+    if (done->answer == MACS_OK && command->kind == MACS_SET_REPLAY) life.window = command->window;
 }
 
 static void fuzz_work(int which) {
@@ -245,10 +300,13 @@ static void fuzz_work(int which) {
     if (which == SUBMIT) {
         fill(command, sizeof *command);
         if (below(8))
-            *command = (struct macs_command){1 + below(10),     some_number(), below(100), (uint8_t)below(4),
-                                             (uint8_t)below(3), some_offset(), some_sci(), some_key()};
+            *command = (struct macs_command){1 + below(10),     some_number(), below(WINDOWS), (uint8_t)below(4),
+                                             (uint8_t)below(3), some_offset(), some_sci(),     some_key()};
         if (command->kind == MACS_RX_INSTALL) installed = *command;
-        note(which, macs_submit(&endpoint, command, ticket));
+        answer = macs_submit(&endpoint, command, ticket);
+        note(which, answer);
+        if (answer == MACS_OK && *ticket != ++life.queued) fail(which, "another ticket", answer);
+        if (answer == MACS_OK) life.commands[*ticket % MACS_QUEUE] = *command;
     } else if (which == NEXT_CALL) {
         answer = macs_next_call(&endpoint, named, done);
         note(which, answer);
@@ -256,6 +314,7 @@ static void fuzz_work(int which) {
         if (has_call) call = *named;
         if (has_call && (call.kind < MACS_READ || call.kind > MACS_SYNC || (call.kind != MACS_SYNC && call.sector >= MACS_SECTORS)))
             fail(which, "no device call", answer);
+        if (answer == MACS_DONE) look_at_done(which, done);
     } else {
         uint32_t ok = below(512) ? 1 : below(UINT32_MAX);
         fill(read, sizeof *read);
@@ -264,6 +323,7 @@ static void fuzz_work(int which) {
         answer = macs_did_call(&endpoint, read, ok, done);
         note(which, answer);
         if (has_call && answer == MACS_NO_CALL) fail(which, "it was named", answer);
+        if (answer == MACS_DONE) look_at_done(which, done);
         has_call = false;
     }
 }
@@ -273,6 +333,9 @@ static void fuzz_carrying(int which) {
     uint8_t *out = room(3, space);
     size_t *written = room(5, sizeof *written);
     uint32_t *pn = room(1, sizeof *pn), answer;
+    struct macs_tx before[ANS], tx;
+    struct macs_tag tag;
+    for (uint8_t an = 0; an < ANS; an++) macs_show_tx(&endpoint, an, &before[an]);
     memset(out, (int)below(256), space);
     copy(0, out, space);
     answer = which == PROTECT ? macs_protect(&endpoint, rooms[2].at, length, out, space, written, pn)
@@ -282,6 +345,10 @@ static void fuzz_carrying(int which) {
     if (!is_there && !is_copy(0, out, space)) fail(which, "the room has changed", answer);
     if (is_there && *written > space) fail(which, "the frame is longer than its room", answer);
     if ((space < MACS_MAX_FRAME) != (answer == MACS_ROOM) && answer != MACS_CLOSED) fail(which, "room", answer);
+    if (answer != MACS_OK) return;
+    if (macs_read_tag(out, *written, &tag) != MACS_OK || tag.pn != *pn || *pn != before[tag.an].next) fail(which, "the packet number", answer);
+    if (macs_show_tx(&endpoint, tag.an, &tx) != MACS_OK || tx.next != before[tag.an].next + 1 || tx.reserved != before[tag.an].reserved - 1)
+        fail(which, "the next packet number", answer);
 }
 
 static void fuzz_readers(int which) {
@@ -291,9 +358,20 @@ static void fuzz_readers(int which) {
     struct macs_sci *sci = room(3, sizeof *sci);
     uint8_t an = (uint8_t)(below(8) ? below(4) : below(256));
     *sci = some_sci();
-    note(which, which == SHOW_TX   ? macs_show_tx(&endpoint, an, tx)
-                : which == SHOW_RX ? macs_show_rx(&endpoint, sci, an, rx)
-                                   : macs_counters(&endpoint, counters));
+    if (below(2)) *sci = installed.sci, an = installed.an;
+    uint32_t answer = which == SHOW_TX   ? macs_show_tx(&endpoint, an, tx)
+                      : which == SHOW_RX ? macs_show_rx(&endpoint, sci, an, rx)
+                                         : macs_counters(&endpoint, counters);
+    note(which, answer);
+    if (answer != MACS_OK) return;
+    if (which == SHOW_TX && (tx->next == 0 || tx->next + tx->reserved > END_OF_NUMBERS)) fail(which, "its numbers", answer);
+    if (which == SHOW_RX && (rx->lowest == 0 || rx->lowest > rx->next || rx->next > rx->lowest + life.window ||
+                             rx->next + rx->reserved > END_OF_NUMBERS))
+        fail(which, "its numbers", answer);
+    if (which == COUNTERS && (counters->protected_frames != life.counts[MACS_OK] ||
+                              memcmp(counters->unsent, &life.counts[MACS_UNSENT_RUNT], sizeof counters->unsent) != 0 ||
+                              memcmp(counters->received, &life.counts[MACS_DELIVERED_OK], sizeof counters->received) != 0))
+        fail(which, "not as counted here", answer);
 }
 
 static void fuzz(void) {
@@ -315,6 +393,25 @@ static void fuzz(void) {
         fuzz_readers(SHOW_TX + (int)below(3));
 }
 
+#ifdef __AFL_FUZZ_INIT
+__AFL_FUZZ_INIT();
+
+/* Makes the calls that an input chooses, over a new endpoint that is open. */
+static void play(const uint8_t *at, size_t length) {
+    const struct macs_identity identity = {{{2, 0, 0, 0, 0, 1, 0, 1}}, 4, 4};
+    macs_close(&endpoint);
+    memset(disk, 0, sizeof disk);
+    memset(&installed, 0, sizeof installed);
+    if (macs_format(disk, MACS_SECTORS, &identity) != MACS_OK || macs_open(&endpoint, disk, MACS_SECTORS) != MACS_OK) abort();
+    begin_life();
+    state = 1, input = at, input_left = length, has_ended = has_call = false;
+    while (!has_ended) {
+        fuzz();
+        look_at_rooms();
+    }
+}
+#endif
+
 int main(int count, char **words) {
     uint64_t calls = count > 1 ? strtoull(words[1], NULL, 10) : 1000000, seed = count > 2 ? strtoull(words[2], NULL, 10) : 1;
     state = seed * UINT64_C(0x9E3779B97F4A7C15) + 1;
@@ -326,6 +423,12 @@ int main(int count, char **words) {
         printf("an endpoint takes %zu octets, aligned to %zu\n", macs_endpoint_size(), macs_endpoint_alignment());
         return 1;
     }
+#ifdef __AFL_FUZZ_INIT
+    __AFL_INIT();
+    const uint8_t *inputs = __AFL_FUZZ_TESTCASE_BUF;
+    while (__AFL_LOOP(10000)) play(inputs, (size_t)__AFL_FUZZ_TESTCASE_LEN);
+    if (count == 1) return 0;
+#endif
     for (uint64_t n = 0; n < calls; n++) {
         fuzz();
         look_at_rooms();
