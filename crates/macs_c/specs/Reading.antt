@@ -1,4 +1,4 @@
--- What a C program is told of a SecTAG.
+-- What a C program reads of a SecTAG.
 use Rattle.std.specs.Prelude.{◌≡◌, ℕ, List, replicate, unwrap_or, if◌then◌else◌, Option, Some, None}
 use Rattle.macs_fields.specs.First.{IsFirst}
 use Rattle.macs_frame.specs.Opening.{named_sci}
