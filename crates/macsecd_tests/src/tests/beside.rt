@@ -48,17 +48,19 @@ fn lines_in(text: &str) -> usize {
     count
 }
 
-/// Takes what has arrived.
-fn take_all(mut stream: &UnixStream, heard: &mut Vec<u8>) {
+/// Takes what has arrived. Returns whether the connection has ended.
+fn take_all(mut stream: &UnixStream, heard: &mut Vec<u8>) -> bool {
     let mut room = [0; 512];
     for _ in 0..64_u32 {
         match stream.read(&mut room) {
-            Ok(count) if count > 0 => {
+            Ok(0) => return true,
+            Ok(count) => {
                 let _ = heard.extend_from_slice(&room[..count]);
             }
-            _ => return,
+            Err(_) => return false,
         }
     }
+    false
 }
 
 impl Guest {
@@ -82,16 +84,17 @@ impl Guest {
         Ok(())
     }
 
-    /// Hears what was said to it.
-    fn hear(&self) {
+    /// Hears what was said to it. Returns whether its connection has ended.
+    fn hear(&self) -> bool {
         if let (Ok(place), Ok(mut heard)) = (
             self.stream.try_borrow(),
             self.heard.try_borrow_mut(),
         ) {
             if let Some(stream) = &*place {
-                take_all(stream, &mut heard);
+                return take_all(stream, &mut heard);
             }
         }
+        false
     }
 
     /// Whether it has an answer to each of its first lines.
@@ -206,6 +209,8 @@ pub struct Beside {
     visitors: Vec<Visitor>,
     have_come: Cell<bool>,
     have_gone_on: Cell<bool>,
+    /// A client's connection ended while the disk file was open.
+    is_left_open: Cell<bool>,
     parent: Option<Parent>,
     keeper: Option<Keeper>,
 }
@@ -219,6 +224,7 @@ impl Beside {
             visitors: Vec::new(alloc),
             have_come: Cell::new(false),
             have_gone_on: Cell::new(false),
+            is_left_open: Cell::new(false),
             parent: None,
             keeper: None,
         }
@@ -324,6 +330,20 @@ impl Beside {
         if !self.visitors.is_empty() {
             self.look(files, "call");
         }
+    }
+
+    /// Looks at the moment before the disk file is closed.
+    pub fn look_at_close(&self) {
+        for guest in &self.guests {
+            if guest.hear() {
+                self.is_left_open.set(true);
+            }
+        }
+    }
+
+    /// Whether the disk file was closed before a client's connection ended.
+    pub fn is_closed_first(&self) -> bool {
+        !self.is_left_open.get()
     }
 
     /// This socket, on which a keeper waits for a client for at most 0.3 s.

@@ -48,7 +48,6 @@ pub enum Broken {
 const SHORT_READ: usize = 100;
 
 /// A file of the system of which something may fail.
-#[derive(Drop)]
 pub struct BrokenFile<'a, R> {
     system: &'a R,
     file: File,
@@ -57,6 +56,21 @@ pub struct BrokenFile<'a, R> {
     beside: Option<&'a Beside>,
     /// How many calls were made of the kind that fails.
     made: u32,
+}
+
+impl<R> Drop for BrokenFile<'_, R> {
+    fn drop(self) {
+        let Self {
+            system: _,
+            file: _file,
+            broken: _,
+            beside,
+            made: _,
+        } = self;
+        if let Some(beside) = beside {
+            beside.look_at_close();
+        }
+    }
 }
 
 impl<R: Files> BrokenFile<'_, R> {

@@ -48,7 +48,8 @@ pub struct Attended {
     pub outcome: Outcome,
 }
 
-/// Runs the relay, and looks at what was said.
+/// Runs the relay, and looks at what was said, and that the disk file was closed before a client's
+/// connection ended.
 pub fn attend(
     rt: &(impl Abort + Files<File = File> + Net + Clock + Env + RandomSource),
     alloc: Global,
@@ -58,6 +59,7 @@ pub fn attend(
     run(rt, alloc, &beside, &attended);
     beside.look(rt, "end");
     assert!(rt; beside.has_seen(attended.seen));
+    assert!(rt; beside.is_closed_first());
     expect_told(rt, alloc, &beside, attended.clients)
 }
 
