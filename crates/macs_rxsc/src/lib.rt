@@ -17,4 +17,4 @@ pub use association::RxNumbers;
 pub use counters::{ChannelCounters, RxCounters};
 pub use need::RxNeed;
 pub use receive::Rx;
-pub use verdict::{Kind, Reason, Verdict};
+pub use verdict::{CHANNEL_VERDICTS, Kind, Reason, VERDICTS, Verdict};

@@ -52,3 +52,33 @@ pub enum Reason {
     /// It did not verify; validation is strict, or C is set.
     NotValid,
 }
+
+/// The verdicts that are counted: all except `HeldBack`.
+pub const VERDICTS: [Verdict; 15] = [
+    Verdict::Delivered(Kind::Ok),
+    Verdict::Delivered(Kind::Delayed),
+    Verdict::Delivered(Kind::Invalid),
+    Verdict::Delivered(Kind::Untagged),
+    Verdict::Delivered(Kind::UnknownSci),
+    Verdict::Delivered(Kind::UnusedSa),
+    Verdict::Discarded(Reason::Runt),
+    Verdict::Discarded(Reason::Oversize),
+    Verdict::Discarded(Reason::NoTag),
+    Verdict::Discarded(Reason::BadTag),
+    Verdict::Discarded(Reason::ForKay),
+    Verdict::Discarded(Reason::NoSci),
+    Verdict::Discarded(Reason::NotUsingSa),
+    Verdict::Discarded(Reason::Late),
+    Verdict::Discarded(Reason::NotValid),
+];
+
+/// Those that are also counted for each channel.
+pub const CHANNEL_VERDICTS: [Verdict; 7] = [
+    Verdict::Delivered(Kind::Ok),
+    Verdict::Delivered(Kind::Delayed),
+    Verdict::Delivered(Kind::Invalid),
+    Verdict::Delivered(Kind::UnusedSa),
+    Verdict::Discarded(Reason::NotUsingSa),
+    Verdict::Discarded(Reason::Late),
+    Verdict::Discarded(Reason::NotValid),
+];

@@ -5,8 +5,7 @@ use crate::passing::tell_verdict;
 use crate::text::{Answer, Words, whole};
 use macs_endpoint::Counters;
 use macs_frame::Sci;
-use macs_rxsc::Verdict;
-use macs_texts::RX_VERDICTS;
+use macs_rxsc::{VERDICTS, Verdict};
 use macs_txsc::TxFault;
 
 const TX_FAULTS: [TxFault; 6] = [
@@ -45,7 +44,7 @@ fn tell_none(answer: &mut Answer) {
 
 /// How often each verdict was given; `none` where none was.
 fn tell_received(counters: Counters<'_>, answer: &mut Answer) {
-    for verdict in RX_VERDICTS {
+    for verdict in VERDICTS {
         tell_count(verdict, counters.verdict(verdict), answer);
     }
     let held_back = Verdict::HeldBack;
@@ -67,7 +66,7 @@ fn tell_count_of(
 
 /// The same of each verdict.
 fn tell_counts_of(counters: Counters<'_>, sci: Sci, answer: &mut Answer) -> Option<()> {
-    for verdict in RX_VERDICTS {
+    for verdict in VERDICTS {
         tell_count_of(counters, sci, verdict, answer)?;
     }
     tell_count_of(counters, sci, Verdict::HeldBack, answer)

@@ -24,7 +24,7 @@ use macs_config::{Config, MAX_SPENT};
 use macs_disk::SectorDisk;
 use macs_endpoint::Endpoint;
 use macs_frame::{An, Sci};
-use macs_rxsc::{Kind, Reason, Verdict};
+use macs_rxsc::{CHANNEL_VERDICTS, VERDICTS};
 use macs_txsc::TxFault;
 
 /// The faults that are counted, in the order in which they are checked.
@@ -35,36 +35,6 @@ pub(crate) const TX_FAULTS: [TxFault; 6] = [
     TxFault::NoEncodingSa,
     TxFault::Exhausted,
     TxFault::NoNumber,
-];
-
-/// The verdicts whose counts are reported: all except `HeldBack`.
-pub const RX_VERDICTS: [Verdict; 15] = [
-    Verdict::Delivered(Kind::Ok),
-    Verdict::Delivered(Kind::Delayed),
-    Verdict::Delivered(Kind::Invalid),
-    Verdict::Delivered(Kind::Untagged),
-    Verdict::Delivered(Kind::UnknownSci),
-    Verdict::Delivered(Kind::UnusedSa),
-    Verdict::Discarded(Reason::Runt),
-    Verdict::Discarded(Reason::Oversize),
-    Verdict::Discarded(Reason::NoTag),
-    Verdict::Discarded(Reason::BadTag),
-    Verdict::Discarded(Reason::ForKay),
-    Verdict::Discarded(Reason::NoSci),
-    Verdict::Discarded(Reason::NotUsingSa),
-    Verdict::Discarded(Reason::Late),
-    Verdict::Discarded(Reason::NotValid),
-];
-
-/// The verdicts that are counted for a channel.
-pub(crate) const CHANNEL_VERDICTS: [Verdict; 7] = [
-    Verdict::Delivered(Kind::Ok),
-    Verdict::Delivered(Kind::Delayed),
-    Verdict::Delivered(Kind::Invalid),
-    Verdict::Delivered(Kind::UnusedSa),
-    Verdict::Discarded(Reason::NotUsingSa),
-    Verdict::Discarded(Reason::Late),
-    Verdict::Discarded(Reason::NotValid),
 ];
 
 /// One more than the greatest packet number (IEEE Std 802.1AE-2018, 9.8).
@@ -101,7 +71,7 @@ fn rx_lines<D: SectorDisk>(paper: &mut Paper, endpoint: &Endpoint<D>)
     ensures { Writes paper.old paper.new (rx_text (rxsc.counters_of endpoint.now.rx)) }
 {
     let counters = endpoint.counters();
-    for &verdict in &RX_VERDICTS {
+    for &verdict in &VERDICTS {
         count_line(
             paper,
             "rx",

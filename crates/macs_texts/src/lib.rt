@@ -19,7 +19,7 @@ mod wire_report;
 mod words;
 
 pub use build::Build;
-pub use counting::{RX_VERDICTS, counter_lines};
+pub use counting::counter_lines;
 pub use key_names::key_digest;
 pub use keys::keys_lines;
 pub use lines::REPORT_ROOM;

@@ -16,7 +16,7 @@ ghost use Rattle.macs_texts.specs.Measuring.{rx_metric, sample, tx_metric, wire_
 ghost use Rattle.macs_texts.specs.Measuring.{wires_metrics};
 
 use crate::build::Build;
-use crate::counting::{CHANNEL_VERDICTS, RX_VERDICTS, TX_FAULTS, keys_left, left_of};
+use crate::counting::{TX_FAULTS, keys_left, left_of};
 use crate::reserved_metrics::reserved_metrics;
 use crate::samples::{Metric, rest_of_sample};
 use crate::wire_report::{WIRE_NUMBERS, WireNumber, WireReport, wire_number};
@@ -26,6 +26,7 @@ use macs_config::Config;
 use macs_disk::SectorDisk;
 use macs_endpoint::Endpoint;
 use macs_frame::{An, Sci};
+use macs_rxsc::{CHANNEL_VERDICTS, VERDICTS};
 
 /// Plain frames, by outcome.
 fn tx_metric<D: SectorDisk>(paper: &mut Paper, own: Sci, endpoint: &Endpoint<D>)
@@ -56,7 +57,7 @@ fn rx_metric<D: SectorDisk>(paper: &mut Paper, own: Sci, endpoint: &Endpoint<D>)
         own,
     };
     frames.describe(paper, "counter", "Received frames by verdict.");
-    for &verdict in &RX_VERDICTS {
+    for &verdict in &VERDICTS {
         let count = counters.verdict(verdict);
         frames.sample(paper, "verdict", verdict_words(verdict), count);
     }
