@@ -262,7 +262,7 @@ uint32_t macs_open_frame(const struct macs_key *key, const struct macs_sci *sci,
 #define MACS_CHANNELS 32     /* receive channels */
 #define MACS_SPENT 512       /* keys that each side may ever be given */
 
-#define MACS_ENDPOINT 263440       /* octets that an endpoint takes */
+#define MACS_ENDPOINT 263424       /* octets that an endpoint takes */
 #define MACS_ENDPOINT_ALIGNMENT 16 /* and the alignment of their address */
 
 struct macs_sector {

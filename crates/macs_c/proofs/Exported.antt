@@ -1,11 +1,10 @@
 -- The calls of an endpoint where one may be open: what was done there, as the answer to a C program says it.
 use Rattle.std.proofs.Common.{◌≡◌, ◌∙◌, ℕ, Bool, true, false, List, Option, Some, None, is_some, refl, sym, ap, subst}
-use Rattle.macs_disk.specs.ImageDisks.{ImageValue, image_disk, image_from}
-use Rattle.macs_disk.specs.ToldDisks.{Moment}
+use Rattle.macs_c.specs.ReportedDisks.{Moment}
 use Rattle.macs_journal.specs.declared.fault.JournalFault.{JournalFault}
-use Rattle.macs_endpoint.specs.Opening.{RefusesOpening}
 use Rattle.macs_c.specs.Answers.{open_answer}
-use Rattle.macs_c.specs.Calls.{DidAnswer, DidFrom, E, IsOpened, MayTell, MayTellThere, NextAnswer, NextFrom, OpenAnswer}
+use Rattle.macs_c.specs.Calls.{DidAnswer, DidFrom, E, IsOpened, IsRefusedFor, MayReport, MayReportThere, NextAnswer}
+use Rattle.macs_c.specs.Calls.{NextFrom, OpenAnswer}
 use Rattle.macs_c.specs.declared.answers.Answer.{Answer}
 use Rattle.macs_c.specs.declared.answers.Answer.TheVariants as code
 use Rattle.macs_c.specs.declared.device_calls.MacsCall.{MacsCall}
@@ -43,11 +42,11 @@ opens-there honest sectors v v' e was is opened =
     (subst (λ (o : Option Slot). OpenAnswer honest sectors None code.Success o) (sym is) (refl, opened))
 
 pub refused-there : (honest : Bool) (sectors : List (List ℕ)) (v v' : Option Slot) (answer : Answer)
-    (fault : JournalFault) (left : ImageValue) → v ≡ None → v' ≡ v → answer ≡ open_answer fault
-    → RefusesOpening image_disk (image_from sectors) left fault → OpenAnswer honest sectors v answer v'
-refused-there honest sectors v v' answer fault left was same says refused =
+    (fault : JournalFault) → v ≡ None → v' ≡ v → answer ≡ open_answer fault → IsRefusedFor sectors fault
+    → OpenAnswer honest sectors v answer v'
+refused-there honest sectors v v' answer fault was same says refused =
     subst (λ (o : Option Slot). OpenAnswer honest sectors v answer o) (sym same)
-    (subst (λ (o : Option Slot). OpenAnswer honest sectors o answer o) (sym was) (fault, left, says, refused))
+    (subst (λ (o : Option Slot). OpenAnswer honest sectors o answer o) (sym was) (fault, says, refused))
 
 -- ---- device calls
 
@@ -66,9 +65,9 @@ next-there v slot call call' done done' answer new is made =
     made
 
 module _ (next : Moment) (read : List ℕ) (ok : ℕ) where
-  pub may-tell-there : (v : Option Slot) (slot : Slot) → v ≡ Some slot → MayTellThere v next read ok
-      → MayTell slot.endpoint next read ok
-  may-tell-there v slot is may = subst (λ (o : Option Slot). MayTellThere o next read ok) is may
+  pub may-report-there : (v : Option Slot) (slot : Slot) → v ≡ Some slot → MayReportThere v next read ok
+      → MayReport slot.endpoint next read ok
+  may-report-there v slot is may = subst (λ (o : Option Slot). MayReportThere o next read ok) is may
 
   pub did-closed : (h h' : MacsEndpoint) (is : Bool) (done : MacsDone) → is ≡ is_some h.value → h' ≡ h
       → is ≡ false → DidAnswer h.value next read ok done code.Closed done h'.value

@@ -1,6 +1,6 @@
 -- What a received frame leaves in a buffer.
 use Rattle.std.proofs.Common.{◌≡◌, inl, inr, ℕ, List, [], Ok, subst}
-use Rattle.macs_disk.specs.ToldDisks.{told_disk}
+use Rattle.macs_c.specs.ReportedDisks.{reported_disk}
 use Rattle.macs_endpoint.specs.Calls.{IsCall}
 use Rattle.macs_endpoint.specs.State.{Received, Receives, State, no_logs}
 use Rattle.macs_endpoint.specs.Step.{ArriveStep, ReceiveStep, Step}
@@ -50,7 +50,7 @@ by_verdict HeldBack given old new is put = subst (λ (frame : List ℕ). IsPut f
 
 -- the frame that an endpoint gives, at the front of a buffer
 pub stores-received : (e e' : E) (frame : List ℕ) (verdict : Verdict) (given : List ℕ) (old new : Buffer)
-    → IsCall told_disk e (Receives frame) (Received (Ok verdict) given) e' → IsPut given old new
+    → IsCall reported_disk e (Receives frame) (Received (Ok verdict) given) e' → IsPut given old new
     → StoresReceived old (Ok verdict) given new
 stores-received e e' frame verdict given old new call put =
     let made = call.behaves.step no_logs in

@@ -4,6 +4,9 @@ pub mod ReadTags
 mod Steps
 mod Held
 mod Handles
+mod EmptyStructs
+mod ImageDisks
+mod ReportedDisks
 mod Opened
 mod Stepped
 mod SectorLists

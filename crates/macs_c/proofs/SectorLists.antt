@@ -1,9 +1,9 @@
 -- Sectors in a list, read and written.
 use Rattle.std.proofs.Common.{◌≡◌, ◌≢◌, ◌<◌, ◌∙◌, ℕ, List, [], ap, sym, length, get_or, slice_set}
 use Rattle.std.proofs.lemmas.List.{get_or-set_other, get_or-set_same}
-use Rattle.macs_disk.specs.ImageDisks.{image_of, sector_of}
+use Rattle.macs_c.specs.ImageDisks.{image_of, sector_of}
 use Rattle.macs_disk.specs.States.{IsSector}
-use Rattle.macs_disk.proofs.ImageDisks.{sector-itself}
+use Rattle.macs_c.proofs.ImageDisks.{sector-itself}
 
 -- one that is read
 pub read-there : (sectors : List (List ℕ)) (at : ℕ) (octets : List ℕ) → octets ≡ get_or sectors at []

@@ -2,7 +2,7 @@
 use Rattle.std.specs.Prelude.{◌≡◌, ◌≢◌, ◌<◌, ◌≤◌, ℕ, false, List, length, Err}
 use Rattle.macs_config.specs.Config.{this_edition}
 use Rattle.macs_config.specs.Identity.{Identity, IsBlock}
-use Rattle.macs_disk.specs.ImageDisks.{image_of}
+use Rattle.macs_c.specs.ImageDisks.{image_of}
 use Rattle.macs_disk.specs.States.{DiskState, Image}
 use Rattle.macs_record.specs.Decoding.{IsSectorOf}
 use Rattle.macs_record.specs.Heads.{IsHeadOf}

@@ -3,7 +3,7 @@
 use Rattle.std.specs.Prelude.{◌≡◌, ◌⊎◌, ◌<◌, ◌≤◌, ◌++◌, ℕ, true, false, List, drop, length, Option, Some, None, Result}
 use Rattle.std.specs.Prelude.{Ok, Err}
 use Rattle.macs_config.specs.declared.command.Command.{Command}
-use Rattle.macs_disk.specs.ToldDisks.{told_disk}
+use Rattle.macs_c.specs.ReportedDisks.{reported_disk}
 use Rattle.macs_endpoint.specs.Calls.{IsCall}
 use Rattle.macs_endpoint.specs.State.{Protected, Protects, Received, Receives, Submits, Submitted}
 use Rattle.macs_endpoint.specs.declared.fault.ProtectFault.{ProtectFault}
@@ -31,7 +31,7 @@ abbrev pub SubmitFrom : E → MacsCommand → ℕ → Answer → ℕ → E → T
 SubmitFrom old command ticket answer ticket' new =
     ((answer ≡ code.Field) × (has_command command ≡ false) × (new ≡ old) × (ticket' ≡ ticket))
     ⊎ ((has_command command ≡ true) × ((asked : Command) × IsCommandOf command asked × ((result : Result ℕ SubmitFault)
-    × (answer ≡ submit_answer result) × IsCall told_disk old (Submits asked) (Submitted result) new
+    × (answer ≡ submit_answer result) × IsCall reported_disk old (Submits asked) (Submitted result) new
     × (ticket' ≡ ticket_after ticket result))))
 
 -- ---- frames
@@ -67,7 +67,7 @@ abbrev pub ProtectFrom : E → List ℕ → Buffer → ℕ → Answer → Buffer
 ProtectFrom old plain out pn answer out' pn' new =
     ((answer ≡ code.Room) × (length out.octets < 9216) × (new ≡ old) × IsKept out out' × (pn' ≡ pn))
     ⊎ ((9216 ≤ length out.octets) × ((result : Result ℕ ProtectFault) × (frame : List ℕ)
-    × (answer ≡ protect_answer result) × IsCall told_disk old (Protects plain) (Protected result frame) new
+    × (answer ≡ protect_answer result) × IsCall reported_disk old (Protects plain) (Protected result frame) new
     × StoresSent out pn result frame out' pn'))
 
 -- the answer for a received frame
@@ -87,7 +87,7 @@ abbrev pub ReceiveFrom : E → List ℕ → Buffer → Answer → Buffer → E �
 ReceiveFrom old frame out answer out' new =
     ((answer ≡ code.Room) × (length out.octets < 9216) × (new ≡ old) × IsKept out out')
     ⊎ ((9216 ≤ length out.octets) × ((result : Result Verdict Stopped) × (plain : List ℕ)
-    × (answer ≡ receive_answer result) × IsCall told_disk old (Receives frame) (Received result plain) new
+    × (answer ≡ receive_answer result) × IsCall reported_disk old (Receives frame) (Received result plain) new
     × StoresReceived out result plain out'))
 
 -- ---- the same where an endpoint may be open

@@ -5,6 +5,9 @@ pub mod Refusals
 pub mod Answers
 pub mod Held
 pub mod Lent
+pub mod ImageDisks
+pub mod ReportedDisks
+pub mod Evidence
 pub mod Calls
 pub mod Formatted
 pub mod Commands

@@ -1,7 +1,7 @@
 //! Device calls and completed commands, as a C program gets them.
 
 ghost use Rattle.std.specs.Prelude.{◌≡◌};
-ghost use Rattle.macs_c.specs.Calls.{call_after, done_after, told};
+ghost use Rattle.macs_c.specs.Calls.{call_after, done_after, reported};
 
 use crate::answers::{command_answer, number_of};
 use macs_disk::{DeviceCall, DeviceFault};
@@ -67,8 +67,8 @@ pub(crate) fn say_done(stepped: &Result<Step, StepFault>, done: &mut MacsDone)
 
 /// What a C program reports of a device call that it made: 1 if it succeeded, any other number if
 /// it failed.
-pub(crate) fn told(ok: u32) -> Result<(), DeviceFault>
-    ensures { result ≡ told ok }
+pub(crate) fn reported(ok: u32) -> Result<(), DeviceFault>
+    ensures { result ≡ reported ok }
 {
     if ok == 1 { Ok(()) } else { Err(DeviceFault) }
 }

@@ -1,9 +1,9 @@
 //! The calls of `include/macsec.h` for a whole endpoint.
 
 ghost use Rattle.std.specs.Prelude.{◌≡◌, Bool, None};
-ghost use Rattle.macs_disk.specs.ToldDisks.{Moment};
+ghost use Rattle.macs_c.specs.ReportedDisks.{Moment};
 ghost use Rattle.macs_c.specs.Answers.{number_of};
-ghost use Rattle.macs_c.specs.Calls.{DidAnswer, MayTellThere, NextAnswer, OpenAnswer};
+ghost use Rattle.macs_c.specs.Calls.{DidAnswer, MayReportThere, NextAnswer, OpenAnswer};
 ghost use Rattle.macs_c.specs.declared.answers.Answer.{Answer};
 
 use crate::answers::{Answer, number_of, open_answer};
@@ -15,7 +15,7 @@ use crate::stepping::{did_call, next_call};
 use std::mem::{align_of, size_of};
 
 /// How many octets an endpoint takes: `MACS_ENDPOINT` of `include/macsec.h`.
-const SIZE: usize = 263_440;
+const SIZE: usize = 263_424;
 
 /// How many octets the address of its memory is a multiple of: `MACS_ENDPOINT_ALIGNMENT`.
 const ALIGNMENT: usize = 16;
@@ -25,7 +25,7 @@ const _: () = prove!(size_of::<Slot>() == SIZE && align_of::<Slot>() == ALIGNMEN
 /// How many octets an endpoint takes.
 #[unsafe(no_mangle)]
 pub extern "C" fn macs_endpoint_size() -> usize
-    ensures { result ≡ 263440 }
+    ensures { result ≡ 263424 }
 {
     SIZE
 }
@@ -94,7 +94,7 @@ pub extern "C" fn macs_did_call(
     done: &mut MacsDone,
 ) -> u32
     ghost next: { Moment }
-    requires { MayTellThere endpoint.old.value next read.now ok }
+    requires { MayReportThere endpoint.old.value next read.now ok }
     ensures { (answer : Answer) × (result ≡ number_of answer)
         × DidAnswer endpoint.old.value next read.now ok done.old answer done.new
         endpoint.new.value }

@@ -1,14 +1,21 @@
-//! What a power loss leaves while a C program writes the sectors of a new journal to its device.
+//! What a list of sectors represents, and what a power loss leaves while a C program writes the
+//! sectors of a new journal to its device.
 
-ghost use Rattle.std.specs.Prelude.{◌≡◌, ◌≤◌, ◌⊎◌, ℕ, Err};
+ghost use Rattle.std.specs.Prelude.{◌≡◌, ◌≤◌, ◌⊎◌, ℕ, List, Err};
 ghost use Rattle.macs_config.specs.Config.{this_edition};
 ghost use Rattle.macs_config.specs.Identity.{Identity};
-ghost use Rattle.macs_disk.specs.States.{DiskState, Image, IsImage};
+ghost use Rattle.macs_disk.specs.States.{DiskState, Image, IsImage, IsSector};
 ghost use Rattle.macs_journal.specs.Areas.{head_body};
 ghost use Rattle.macs_journal.specs.declared.fault.JournalFault.TheVariants.{NotFormatted};
 ghost use Rattle.macs_store.specs.Found.{StandingIs};
 ghost use Rattle.macs_endpoint.specs.Formatting.{IsFormattedAs};
 ghost use Rattle.macs_c.specs.Formatted.{Formats, IsAtGate, IsBeforeGate, IsWritten};
+ghost use Rattle.macs_c.specs.ImageDisks.{sector_of};
+
+/// A sector in memory is what contracts read there.
+pub fn sectors_are_themselves()
+    ensures { (octets : List ℕ) → IsSector octets → sector_of octets ≡ octets }
+{}
 
 /// All sectors that change lie in the first area.
 pub fn the_second_area_stays()

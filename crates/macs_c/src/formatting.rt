@@ -3,7 +3,7 @@
 
 ghost use Rattle.std.specs.Prelude.{◌≡◌, ◌≢◌, ◌↔◌, ◌<◌, ◌≤◌, ◌+◌, ℕ, IsTrue, [], get_or, length};
 ghost use Rattle.std.specs.Bool.{OnFalse, OnTrue};
-ghost use Rattle.macs_disk.specs.ImageDisks.{image_of};
+ghost use Rattle.macs_c.specs.ImageDisks.{image_of};
 ghost use Rattle.macs_disk.specs.States.{IsSector};
 ghost use Rattle.macs_record.specs.Decoding.{IsSectorOf};
 ghost use Rattle.macs_record.specs.Gates.{IsOpen, closed_gate};
@@ -17,6 +17,7 @@ ghost use Rattle.macs_c.specs.Formatted.{FormatAnswer, IsFilled};
 
 use crate::answers::Answer;
 use crate::fields::MacsSci;
+use crate::image::{sector_at, sector_in_range};
 use macs_config::Identity;
 use macs_fields::Sci;
 use macs_journal::{LEAST_SECTORS, SLOTS};
@@ -48,24 +49,6 @@ pub struct MacsIdentity {
     pub tx_block: u32,
     /// How many of a receive association: 1 to 65,536.
     pub rx_block: u32,
-}
-
-/// For proofs, does nothing: a sector has 512 octets.
-fn sector_in_range(sector: [u8; 512])
-    ensures { IsSector sector }
-{
-    let _first = sector[0];
-}
-
-/// The octets of a sector.
-fn sector_at(sectors: &[[u8; 512]], at: u64) -> [u8; 512]
-    requires { at < length sectors.now }
-    ensures octets { result ≡ get_or sectors.now at [] }
-    ensures sector { IsSector result }
-{
-    let sector = sectors[at as usize];
-    sector_in_range(sector);
-    sector
 }
 
 /// Whether a gate is open.

@@ -5,14 +5,14 @@ ghost use Rattle.macs_c.specs.Frames.{ProtectFrom, ReceiveFrom, SubmitFrom, buff
 
 use crate::answers::{Answer, protect_answer, submit_answer};
 use crate::commands::{MacsCommand, command_from_c};
-use macs_disk::ToldDisk;
+use crate::reported::ReportedDisk;
 use macs_endpoint::Endpoint;
 use macs_frame::{FrameBuf, MAX_FRAME};
 
 /// Queues a command, and stores its ticket. Otherwise nothing changes: `Field`, if a field is out
 /// of its range, or why the endpoint does not take it.
 pub(crate) fn submit(
-    endpoint: &mut Endpoint<ToldDisk>,
+    endpoint: &mut Endpoint<ReportedDisk>,
     command: &MacsCommand,
     ticket: &mut u64,
 ) -> Answer
@@ -46,7 +46,7 @@ fn put_frame(frame: &FrameBuf, out: &mut [u8], written: &mut usize)
 /// Otherwise nothing is stored: `Room`, if the buffer has fewer than 9,216 octets, or why the
 /// endpoint does not send it.
 pub(crate) fn protect(
-    endpoint: &mut Endpoint<ToldDisk>,
+    endpoint: &mut Endpoint<ReportedDisk>,
     plain: &[u8],
     out: &mut [u8],
     written: &mut usize,
@@ -73,7 +73,7 @@ pub(crate) fn protect(
 /// length in octets is stored. Nothing is stored with `Room`, if the buffer has fewer than 9,216
 /// octets, and with `Stopped`.
 pub(crate) fn receive(
-    endpoint: &mut Endpoint<ToldDisk>,
+    endpoint: &mut Endpoint<ReportedDisk>,
     frame: &[u8],
     out: &mut [u8],
     written: &mut usize,

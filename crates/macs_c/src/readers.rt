@@ -5,10 +5,10 @@ ghost use Rattle.macs_c.specs.Shown.{RxFrom, TxFrom, counts_of, received_counts,
 
 use crate::answers::Answer;
 use crate::fields::MacsSci;
-use macs_disk::ToldDisk;
+use crate::reported::ReportedDisk;
 use macs_endpoint::Endpoint;
 use macs_fields::{An, Sci};
-use macs_rxsc::{Kind, Reason, Verdict};
+use macs_rxsc::VERDICTS;
 use macs_txsc::TxFault;
 
 /// A transmit association.
@@ -55,27 +55,8 @@ const FAULTS: [TxFault; 6] = [
     TxFault::NoNumber,
 ];
 
-/// The verdicts that are counted, in the order of their codes: all but `HeldBack`.
-const VERDICTS: [Verdict; 15] = [
-    Verdict::Delivered(Kind::Ok),
-    Verdict::Delivered(Kind::Delayed),
-    Verdict::Delivered(Kind::Invalid),
-    Verdict::Delivered(Kind::Untagged),
-    Verdict::Delivered(Kind::UnknownSci),
-    Verdict::Delivered(Kind::UnusedSa),
-    Verdict::Discarded(Reason::Runt),
-    Verdict::Discarded(Reason::Oversize),
-    Verdict::Discarded(Reason::NoTag),
-    Verdict::Discarded(Reason::BadTag),
-    Verdict::Discarded(Reason::ForKay),
-    Verdict::Discarded(Reason::NoSci),
-    Verdict::Discarded(Reason::NotUsingSa),
-    Verdict::Discarded(Reason::Late),
-    Verdict::Discarded(Reason::NotValid),
-];
-
 /// Shows a transmit association.
-pub(crate) fn show_tx(endpoint: &Endpoint<ToldDisk>, an: u8, shown: &mut MacsTx) -> Answer
+pub(crate) fn show_tx(endpoint: &Endpoint<ReportedDisk>, an: u8, shown: &mut MacsTx) -> Answer
     ensures { TxFrom endpoint.now an shown.old result shown.new }
 {
     endpoint.facts();
@@ -94,7 +75,7 @@ pub(crate) fn show_tx(endpoint: &Endpoint<ToldDisk>, an: u8, shown: &mut MacsTx)
 
 /// Shows a receive association.
 pub(crate) fn show_rx(
-    endpoint: &Endpoint<ToldDisk>,
+    endpoint: &Endpoint<ReportedDisk>,
     sci: &MacsSci,
     an: u8,
     shown: &mut MacsRx,
@@ -121,7 +102,7 @@ pub(crate) fn show_rx(
 }
 
 /// How many plain frames were not sent, by fault.
-fn unsent(endpoint: &Endpoint<ToldDisk>) -> [u64; 6]
+fn unsent(endpoint: &Endpoint<ReportedDisk>) -> [u64; 6]
     ensures { result ≡ unsent_counts endpoint.now }
 {
     let counters = endpoint.counters();
@@ -133,7 +114,7 @@ fn unsent(endpoint: &Endpoint<ToldDisk>) -> [u64; 6]
 }
 
 /// How many received frames were delivered or discarded, by verdict.
-fn received(endpoint: &Endpoint<ToldDisk>) -> [u64; 15]
+fn received(endpoint: &Endpoint<ReportedDisk>) -> [u64; 15]
     ensures { result ≡ received_counts endpoint.now }
 {
     let counters = endpoint.counters();
@@ -145,7 +126,7 @@ fn received(endpoint: &Endpoint<ToldDisk>) -> [u64; 15]
 }
 
 /// The counters.
-pub(crate) fn count(endpoint: &Endpoint<ToldDisk>) -> MacsCounters
+pub(crate) fn count(endpoint: &Endpoint<ReportedDisk>) -> MacsCounters
     ensures { result ≡ counts_of endpoint.now }
 {
     MacsCounters {

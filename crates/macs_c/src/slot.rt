@@ -1,10 +1,10 @@
 //! What lies in the memory of an endpoint.
 
-use macs_disk::ToldDisk;
+use crate::reported::ReportedDisk;
 use macs_endpoint::Endpoint;
 
 /// An endpoint, whose device calls a C program makes.
 #[derive(Drop)]
 pub struct Slot {
-    pub(crate) endpoint: Endpoint<ToldDisk>,
+    pub(crate) endpoint: Endpoint<ReportedDisk>,
 }

@@ -5,8 +5,9 @@ ghost use Rattle.macs_store.specs.Value.{IsIdle};
 ghost use Rattle.macs_c.specs.Calls.{BeginsThere, StoreFrom};
 
 use crate::handle::MacsEndpoint;
+use crate::image::ImageDisk;
+use crate::reported::ReportedDisk;
 use crate::slot::Slot;
-use macs_disk::{ImageDisk, ToldDisk};
 use macs_endpoint::Endpoint;
 use macs_journal::JournalFault;
 use macs_store::Store;
@@ -15,19 +16,19 @@ use macs_store::Store;
 /// sectors, whose calls somebody else makes. Fails with `TooSmall`, `NotFormatted` or `BadJournal`;
 /// and with `Disk` or `GenerationsSpent` at a journal of format one, since nothing can be written.
 #[inline(never)]
-pub(crate) fn store_of(sectors: &[[u8; 512]]) -> Result<Store<ToldDisk>, JournalFault>
+pub(crate) fn store_of(sectors: &[[u8; 512]]) -> Result<Store<ReportedDisk>, JournalFault>
     ghost honest: { Bool }
     ensures { StoreFrom honest sectors.now result }
 {
     match Store::open(ImageDisk::of(sectors)) {
-        Ok(store) => Ok(store.on(ToldDisk::of(sectors))),
+        Ok(store) => Ok(store.on(ReportedDisk::of(sectors))),
         Err(refused) => Err(refused.fault),
     }
 }
 
 /// Puts the endpoint there that begins with what was read. None may be open there.
 #[inline(never)]
-pub(crate) fn begin(endpoint: &mut MacsEndpoint, store: Store<ToldDisk>)
+pub(crate) fn begin(endpoint: &mut MacsEndpoint, store: Store<ReportedDisk>)
     requires closed { endpoint.old.value ≡ None }
     requires idle { IsIdle store }
     ensures { BeginsThere store endpoint.new.value }

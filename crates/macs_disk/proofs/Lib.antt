@@ -6,8 +6,6 @@ mod MissedCalls
 pub mod ReadBack
 mod Kept
 mod ListedCalls
-pub mod ToldDisks
-pub mod ImageDisks
 mod Walks
 pub mod FileWrites
 pub mod FileReads

@@ -1,4 +1,4 @@
--- Steps that the walks of `src/log` and `src/telling` share. Assumes `Logic`.
+-- Steps that the walks of `src/log` share. Assumes `Logic`.
 use Rattle.std.proofs.Common.{List, [], ◌∷◌, refl}
 use seplogic.Ra.Ura.{Ura}
 use mir.Val.{Val, vstruct, vcons, vnil}
@@ -25,9 +25,3 @@ module _ {M : Type 1} {𝓤 : Ura M} {𝓛 : Logic 𝓤} {K : Type 0} {Γ : List
       nothing t $ move t (1 ∷ 0 ∷ []) $ fjoin t $ feq_i t (List Val) (one u ∷ []) (one u ∷ []) refl $ fjoin t $
       fpack t (Valss (R ∷ []))
       (within (record { name = []; args = []; types = []; fields = R ∷ [] }) (x, tt) (one u ∷ [])) (u ∷ [], tt) $ s)
-
-  -- a struct with no field
-  pub empty_made : K → Step K 𝓛 (‵ ((plainly []).own_val tt (none ∷ [])) ∷ Γ) G Γ G
-  empty_made t = step (λ s.
-      nothing t $ feq_i t (List Val) (none ∷ []) (none ∷ []) refl $ fjoin t $
-      fpack t (Valss []) (within (record { name = []; args = []; types = []; fields = [] }) tt (none ∷ [])) tt $ s)

@@ -7,8 +7,6 @@ pub mod Fuses
 pub mod CallLists
 pub mod Memory
 pub mod MemDisks
-pub mod ImageDisks
-pub mod ToldDisks
 pub mod Files
 pub mod FileFailures
 pub mod Layouts

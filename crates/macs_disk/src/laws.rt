@@ -17,7 +17,6 @@ ghost use Rattle.macs_disk.specs.Files.{IsSoundFile, WritesSome, file_in_doubt};
 ghost use Rattle.macs_disk.specs.FileDisks.{IsFoundAs, IsLeftAsShown, IsOpened, disk_in_file};
 ghost use Rattle.macs_disk.specs.FileDisks.{file_left, image_in_file};
 ghost use Rattle.macs_disk.specs.FileDisks.{layout_of, state_in_file};
-ghost use Rattle.macs_disk.specs.ImageDisks.{sector_of};
 ghost use Rattle.macs_disk.specs.Layouts.{place, suits};
 ghost use Rattle.macs_disk.specs.declared.file.FileDisk.{FileDisk};
 ghost use Rattle.macs_disk.specs.declared.layout.Layout.{Layout};
@@ -221,9 +220,4 @@ pub fn sectors_do_not_overlap()
 pub fn a_file_of_the_system_claims_nothing()
     ensures { (it : FileDisk SystemFile)
         → (disk_in_file ⟦<File as DiskFile>⟧.file it).honest ≡ false }
-{}
-
-/// A sector in memory is what a disk of such sectors has there, an `ImageDisk` or a `ToldDisk`.
-pub fn sectors_are_themselves()
-    ensures { (octets : List ℕ) → IsSector octets → sector_of octets ≡ octets }
 {}

@@ -1,5 +1,5 @@
 use Rattle.macs_c.specs.declared.answers.Answer.TheVariants as code
-use Rattle.macs_c.proofs.Exported.{did-closed, did-there, lent-there, may-tell-there}
+use Rattle.macs_c.proofs.Exported.{did-closed, did-there, lent-there, may-report-there}
 use Rattle.macs_c.proofs.endpoint_exports.macs_did_call.Goals as goal
 
 pub returns-then-not-is_open : goal.returns-then-not-is_open
@@ -12,7 +12,7 @@ returns-then-not-is_open g c = (
 
 pub did_call-requires : goal.did_call-requires
 did_call-requires g c =
-    may-tell-there g.next c.args.read.now c.args.ok c.args.endpoint.now.value c.get-slot.result.now
+    may-report-there g.next c.args.read.now c.args.ok c.args.endpoint.now.value c.get-slot.result.now
     (lent-there c.args.endpoint.now c.is_open.new.self c.get-slot.result.now c.is_open.ensures.1
     c.get-slot.ensures.value)
     c.requires

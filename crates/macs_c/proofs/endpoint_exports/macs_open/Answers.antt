@@ -2,7 +2,7 @@ use Rattle.std.proofs.Common.{◌∙◌, sym, ap}
 use Rattle.macs_c.specs.declared.answers.Answer.TheVariants as code
 use Rattle.macs_c.specs.declared.handle.MacsEndpoint.{MacsEndpoint}
 use Rattle.macs_c.proofs.Exported.{none-there, open-already, opens-there, refused-there}
-use Rattle.macs_c.proofs.Opened.{opened-from, refused-from, store-idle}
+use Rattle.macs_c.proofs.Opened.{opened-from, store-idle}
 use Rattle.macs_c.proofs.endpoint_exports.macs_open.Goals as goal
 
 pub returns-then-is_open : goal.returns-then-is_open
@@ -26,12 +26,10 @@ returns-in-Ok g c = (
 )
 
 pub returns-in-Err : goal.returns-in-Err
-returns-in-Err g c =
-    let refused = refused-from g.honest c.args.sectors.now c.in-Err.fault c.in-Err.ensures in (
-      c.open_answer.result,
-      c.number_of-in-Err.ensures,
-      refused-there g.honest c.args.sectors.now c.args.endpoint.now.value _ c.open_answer.result
-          c.in-Err.fault refused.0
-          (none-there c.args.endpoint.now.value (sym c.is_open.ensures.0 ∙ c.if-is_open.false))
-          (ap (λ (h : MacsEndpoint). h.value) c.is_open.ensures.1) c.open_answer.ensures refused.1,
-    )
+returns-in-Err g c = (
+  c.open_answer.result,
+  c.number_of-in-Err.ensures,
+  refused-there g.honest c.args.sectors.now c.args.endpoint.now.value _ c.open_answer.result c.in-Err.fault
+      (none-there c.args.endpoint.now.value (sym c.is_open.ensures.0 ∙ c.if-is_open.false))
+      (ap (λ (h : MacsEndpoint). h.value) c.is_open.ensures.1) c.open_answer.ensures c.in-Err.ensures,
+)

@@ -1,5 +1,5 @@
 use Rattle.std.proofs.Common.{◌≡◌, ◌≢◌, ◌∙◌, ◌+◌, ℕ, List, ap, arith, refl, subst}
-use Rattle.macs_disk.specs.ImageDisks.{image_of}
+use Rattle.macs_c.specs.ImageDisks.{image_of}
 use Rattle.macs_record.specs.Gates.{IsOpen, closed_gate}
 use Rattle.macs_journal.specs.Areas.{gate}
 use Rattle.macs_c.proofs.Filled.{closed-next, others-next}

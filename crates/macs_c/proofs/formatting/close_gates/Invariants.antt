@@ -1,5 +1,5 @@
 use Rattle.std.proofs.Common.{◌≡◌, ◌+◌, ℕ, length}
-use Rattle.macs_disk.specs.ImageDisks.{image_of}
+use Rattle.macs_c.specs.ImageDisks.{image_of}
 use Rattle.macs_journal.specs.NewArea.{AreClosed, IsNoOpenGate}
 use Rattle.macs_c.proofs.formatting.close_gates.Given as goal
 

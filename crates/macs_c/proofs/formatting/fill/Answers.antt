@@ -1,5 +1,5 @@
 use Rattle.std.proofs.Common.{◌∙◌}
-use Rattle.macs_disk.specs.ImageDisks.{image_of}
+use Rattle.macs_c.specs.ImageDisks.{image_of}
 use Rattle.macs_c.proofs.Filled.{filled}
 use Rattle.macs_c.proofs.formatting.fill.Goals as goal
 

@@ -1,6 +1,6 @@
 use Rattle.std.proofs.Common.{length, refl, subst}
 use Rattle.macs_config.specs.Identity.{Identity}
-use Rattle.macs_disk.specs.ImageDisks.{image_of}
+use Rattle.macs_c.specs.ImageDisks.{image_of}
 use Rattle.macs_c.specs.Formatted.{IsFilled, identity_of}
 use Rattle.macs_c.proofs.Filled.{formats}
 use Rattle.macs_c.proofs.formatting.format.Goals as goal

@@ -13,5 +13,5 @@ returns-in-Ok g c =
 
 pub returns-in-Err : goal.returns-in-Err
 returns-in-Err g c =
-    store-refused g.honest c.args.sectors.now c.of.result c.of.ensures c.in-Err.refused.disk c.in-Err.refused.fault
+    store-refused c.args.sectors.now c.in-Err.refused.disk c.of.result c.of.ensures g.honest c.in-Err.refused.fault
     c.in-Err.ensures
