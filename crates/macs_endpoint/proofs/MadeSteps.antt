@@ -1,5 +1,5 @@
--- An endpoint with another device, as before a device call that somebody made; and what holds in memory whoever made the
--- call.
+-- An endpoint with another device, as before a device call that somebody made; and what holds in memory whoever made
+-- the call.
 use Rattle.std.proofs.Common.{◌≡◌, ◌≢◌, ◌⊎◌, ◌∙◌, inl, inr, true, false, Some, Result, Ok, refl, sym, ap}
 use Rattle.macs_disk.specs.Disk as disk
 use Rattle.macs_disk.proofs.Moments.{Works-start}

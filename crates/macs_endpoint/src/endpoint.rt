@@ -71,10 +71,11 @@ impl<D: SectorDisk> Endpoint<D> {
         requires { IfOk opened IsIdle }
         ensures { BeginsOpened opened result }
     {
-        match opened {
-            Ok(store) => Ok(Endpoint::with_store(store)),
-            Err(refused) => Err(refused),
-        }
+        let store = match opened {
+            Ok(store) => store,
+            Err(refused) => return Err(refused),
+        };
+        Ok(Endpoint::with_store(store))
     }
 
     /// The endpoint that begins with the contents of a store, which has nothing under way: that of

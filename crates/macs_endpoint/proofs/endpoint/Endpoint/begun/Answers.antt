@@ -6,9 +6,10 @@ use Rattle.macs_endpoint.proofs.endpoint.Endpoint.begun.Goals as goal
 
 pub with_store-requires : goal.with_store-requires
 with_store-requires g c =
-    subst (λ (o : Result (StoreValue g.row.D.Denot) (RecoverRefused g.row.D.Denot)). IfOk o IsIdle) c.in-Ok.is c.requires
+    subst (λ (o : Result (StoreValue g.row.D.Denot) (RecoverRefused g.row.D.Denot)). IfOk o IsIdle)
+    c.in-Ok.is c.requires
 
-pub returns-in-Ok : goal.returns-in-Ok
-returns-in-Ok g c =
+pub returns : goal.returns
+returns g c =
     subst (λ (o : Result (StoreValue g.row.D.Denot) (RecoverRefused g.row.D.Denot)).
     BeginsOpened o (Ok c.with_store.result)) (sym c.in-Ok.is) c.with_store.ensures
