@@ -11,14 +11,16 @@ mod memory;
 mod promises;
 mod renewals;
 mod renewed_files;
-mod shut_files;
 mod stories;
 mod tearing;
 
 use macs_disk::{DeviceFault, Fuse, MemDisk, SectorDisk};
 use std::alloc::{Allocator, Global};
+use std::fs::File;
+use std::ops::Range;
 use std::process::Abort;
-use std::test::Fail;
+use std::rt::Files;
+use std::{fs, io};
 
 /// A call of a disk.
 #[derive(Clone, Copy)]
@@ -79,22 +81,33 @@ fn seen<D: SectorDisk>(rt: &impl Abort, disk: &mut D, at: u64) -> Result<u8, Dev
     Ok(octet_of(rt, &sector))
 }
 
+/// How many sectors a disk has, or why there is none.
+fn sectors<D: SectorDisk + Drop, E>(disk: Result<D, E>) -> Result<u64, E> {
+    match disk {
+        Ok(disk) => Ok(disk.sectors()),
+        Err(fault) => Err(fault),
+    }
+}
+
 /// Makes one call.
 fn make<D: SectorDisk>(rt: &impl Abort, disk: &mut D, call: Call) -> Result<(), DeviceFault> {
     match call {
         Fill(at, octet) => fill(rt, disk, at, octet),
         Read(at, octet) => {
-            assert_eq!(rt; seen(rt, disk, at)?, octet);
+            assert!(rt; seen(rt, disk, at)? == octet);
             Ok(())
         }
         Sync => disk.sync(),
     }
 }
 
-/// Makes calls. So many are done, and those after them fail.
-fn answers<D: SectorDisk>(rt: &impl Abort, disk: &mut D, calls: &[Call], done: usize) {
+/// Makes calls. Those at these places fail, and no others.
+fn make_all<D: SectorDisk>(rt: &impl Abort, disk: &mut D, calls: &[Call], failing: Range<usize>) {
     for (i, call) in calls.iter().enumerate() {
-        assert_eq!(rt; make(rt, disk, *call).is_ok(), i < done, "call {i}");
+        assert!(rt;
+            make(rt, disk, *call).is_ok() != failing.contains(&i),
+            "call {i}"
+        );
     }
 }
 
@@ -103,7 +116,7 @@ fn stopped<D: SectorDisk>(rt: &impl Abort, disk: D, calls: &[Call], done: usize)
     let sectors = disk.sectors();
     let mut fuse = Fuse::new(disk, done as u64);
     assert!(rt; fuse.sectors() == sectors);
-    answers(rt, &mut fuse, calls, done);
+    make_all(rt, &mut fuse, calls, done..calls.len());
     fuse.into_inner()
 }
 
@@ -120,13 +133,9 @@ fn is_pending<A: Allocator>(rt: &impl Abort, disk: &MemDisk<A>, at: u64) -> bool
     disk.is_pending(at)
 }
 
-fn found<A: Allocator>(
-    rt: &impl Abort,
-    disk: &mut MemDisk<A>,
-    at: u64,
-) -> Result<Found, DeviceFault> {
-    let read = seen(rt, disk, at)?;
-    Ok((read, durable(rt, disk, at), is_pending(rt, disk, at)))
+fn found<A: Allocator>(rt: &impl Abort, disk: &mut MemDisk<A>, at: u64) -> Found {
+    let read = seen(rt, disk, at).expect(rt, "a sector");
+    (read, durable(rt, disk, at), is_pending(rt, disk, at))
 }
 
 /// Chooses that a power loss fills a sector with an octet.
@@ -135,43 +144,53 @@ fn tear<A: Allocator>(rt: &impl Abort, disk: &mut MemDisk<A>, at: u64, octet: u8
     disk.tear(at, &full(octet))
 }
 
+/// This is found of a sector.
+fn find<A: Allocator>(rt: &impl Abort, disk: &mut MemDisk<A>, at: u64, wanted: Found) {
+    assert!(rt; found(rt, disk, at) == wanted, "sector {at}");
+}
+
 /// Takes one step.
-fn take<A: Allocator>(
-    rt: &impl Abort,
-    disk: &mut MemDisk<A>,
-    step: Step,
-) -> Result<(), DeviceFault> {
+fn take<A: Allocator>(rt: &impl Abort, disk: &mut MemDisk<A>, step: Step) {
     match step {
-        Step::Make(call) => make(rt, disk, call)?,
-        Step::Tear(at, octet, pending) => assert_eq!(rt; tear(rt, disk, at, octet), pending),
+        Step::Make(call) => assert!(rt; make(rt, disk, call).is_ok()),
+        Step::Tear(at, octet, pending) => assert!(rt; tear(rt, disk, at, octet) == pending),
         Step::Crash => disk.crash(),
-        Step::Find(at, wanted) => assert_eq!(rt; found(rt, disk, at)?, wanted, "sector {at}"),
+        Step::Find(at, wanted) => find(rt, disk, at, wanted),
     }
-    Ok(())
 }
 
 /// Takes steps, one after the other.
-fn play<A: Allocator>(
-    rt: &impl Abort,
-    disk: &mut MemDisk<A>,
-    story: &[Step],
-) -> Result<(), DeviceFault> {
+fn play<A: Allocator>(rt: &impl Abort, disk: &mut MemDisk<A>, story: &[Step]) {
     for step in story {
-        take(rt, disk, *step)?;
+        take(rt, disk, *step);
     }
-    Ok(())
 }
 
 /// A new disk.
-fn blank(rt: &impl Abort, alloc: Global, sectors: u64) -> Result<MemDisk, Fail> {
-    let disk = MemDisk::new(alloc, sectors)?;
+fn blank(rt: &impl Abort, alloc: Global, sectors: u64) -> MemDisk {
+    let Ok(disk) = MemDisk::new(alloc, sectors) else {
+        panic!(rt; "no disk");
+    };
     assert!(rt; disk.sectors() == sectors);
-    Ok(disk)
+    disk
 }
 
 /// Takes steps on a new disk.
-fn begin(rt: &impl Abort, alloc: Global, sectors: u64, story: &[Step]) -> Result<(), Fail> {
-    let mut disk = blank(rt, alloc, sectors)?;
-    play(rt, &mut disk, story)?;
-    Ok(())
+fn begin(rt: &impl Abort, alloc: Global, sectors: u64, story: &[Step]) {
+    let mut disk = blank(rt, alloc, sectors);
+    play(rt, &mut disk, story);
+}
+
+/// This is done.
+fn done(rt: &impl Abort, told: io::Result<()>) {
+    assert!(rt; told.is_ok());
+}
+
+/// This is so.
+fn expect(rt: &impl Abort, fact: io::Result<bool>) {
+    assert!(rt; matches!(fact, Ok(true)));
+}
+
+fn is_missing(rt: &impl Files<File = File>, path: &str) -> io::Result<bool> {
+    Ok(!fs::exists(rt, path)?)
 }

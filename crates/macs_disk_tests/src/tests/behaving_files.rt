@@ -5,9 +5,10 @@ ghost use Rattle.macs_disk.specs.States.{Image};
 ghost use Rattle.macs_disk.specs.Disk.{IsHonest, MayLeave};
 ghost use Rattle.macs_disk.specs.FileDisks.{IsFoundAgain, disk_in_file, layout_of};
 
+use super::kernel_files::open_again;
 use super::{full, seen};
 use macs_disk::{ClaimedFile, DeviceFault, DiskFile, FileDisk, Layout, SectorDisk};
-use macs_fixtures::{DeviceBlock, MemFile, MemFolder, open_disk};
+use macs_fixtures::{DeviceBlock, MemFile, MemFolder};
 use std::alloc::Allocator;
 use std::process::Abort;
 use std::test::Fail;
@@ -51,18 +52,21 @@ fn a_disk_in_a_file_that_behaves_is_honest(rt: HostRuntime) -> Result<(), Fail> 
     Ok(())
 }
 
-#[test]
-fn a_disk_in_a_file_is_found_again(rt: HostRuntime) -> Result<(), Fail> {
-    let folder = MemFolder::new(rt.alloc(), 129, DeviceBlock::Octets512, 4_096)?;
-    let Ok(mut disk) = FileDisk::blank(folder.make_beside()?, Layout::Packed) else {
+/// Makes a packed disk in a new file, and uses it.
+fn use_beside<F: DiskFile + Drop>(rt: &impl Abort, file: F) {
+    let Ok(mut disk) = FileDisk::blank(file, Layout::Packed) else {
         panic!(rt; "no new disk");
     };
     assert!(rt; 3 < disk.sectors());
     use_packed(&mut disk);
+}
+
+#[test]
+fn a_disk_in_a_file_is_found_again(rt: HostRuntime) -> Result<(), Fail> {
+    let folder = MemFolder::new(rt.alloc(), 129, DeviceBlock::Octets512, 4_096)?;
+    use_beside(&rt, folder.make_beside()?);
     folder.rename();
-    let Ok(mut again) = open_disk(&folder, 0) else {
-        panic!(rt; "no disk");
-    };
+    let mut again = open_again(&rt, &folder);
     assert!(rt; again.sectors() == 1_028);
     assert!(rt; seen(&rt, &mut again, 3) == Ok(7));
     Ok(())

@@ -47,6 +47,15 @@ struct FailingFile<'a> {
     octets: Cursor<[u8; 2_048]>,
 }
 
+impl FailingFile<'_> {
+    /// Begins a read or a write from an octet on.
+    fn go_to(&mut self, at: u64) -> io::Result<()> {
+        self.calls.make()?;
+        self.octets.seek(SeekFrom::Start(at))?;
+        Ok(())
+    }
+}
+
 impl DiskFile for FailingFile<'_> {
     ghost use Rattle.macs_disk.specs.Evidence.{no-claim};
 
@@ -60,16 +69,14 @@ impl DiskFile for FailingFile<'_> {
     }
 
     fn read_at(&mut self, at: u64, into: &mut [u8]) -> io::Result<usize> {
-        self.calls.make()?;
+        self.go_to(at)?;
         let count = into.len().min(self.most);
-        self.octets.seek(SeekFrom::Start(at))?;
         self.octets.read(&mut into[..count])
     }
 
     fn write_at(&mut self, at: u64, from: &[u8]) -> io::Result<usize> {
-        self.calls.make()?;
+        self.go_to(at)?;
         let count = from.len().min(self.most);
-        self.octets.seek(SeekFrom::Start(at))?;
         let count = self.octets.write(&from[..count])?;
         self.length = self.length.max(at.saturating_add(count as u64));
         Ok(count)
@@ -93,17 +100,32 @@ fn file(calls: &Calls, length: u64, most: usize) -> FailingFile<'_> {
 }
 
 /// Whether a write of 7 was done, what is read then, and whether a sync was done.
-type Life = Result<(bool, Option<u8>, bool), FileFault>;
+type Use = (bool, Option<u8>, bool);
+
+fn used<D: SectorDisk>(rt: &impl Abort, disk: &mut D) -> Use {
+    let is_written = make(rt, disk, Fill(3, 7)).is_ok();
+    let read = seen(rt, disk, 3).ok();
+    (is_written, read, disk.sync().is_ok())
+}
+
+/// The use of a disk, or why there is none.
+type Life = Result<Use, FileFault>;
 
 /// The life of a disk of 4 sectors in a copy of a file of so many octets.
 fn live(rt: &impl Abort, calls: &Calls, length: u64, most: usize) -> Life {
     let mut old = ClaimedFile::of(file(calls, length, most))?;
     let mut disk = FileDisk::over(&mut old, file(calls, 0, most), 4)?;
     assert!(rt; disk.sectors() == 4);
-    let is_written = make(rt, &mut disk, Fill(3, 7)).is_ok();
-    let read = seen(rt, &mut disk, 3).ok();
-    let is_synced = disk.sync().is_ok();
-    Ok((is_written, read, is_synced))
+    Ok(used(rt, &mut disk))
+}
+
+/// The life of the disk is this one, where this call fails.
+fn expect(rt: &impl Abort, length: u64, most: usize, failing: u64, kind: ErrorKind, life: Life) {
+    let calls = Calls::new(failing, kind);
+    assert!(rt;
+        live(rt, &calls, length, most) == life,
+        "{length} and {most} octets, call {failing}"
+    );
 }
 
 const DONE: Life = Ok((true, Some(7), true));
@@ -170,8 +192,7 @@ const LIVES: [(ErrorKind, [Life; 11]); 3] = [
 fn each_call_that_fails_is_answered(rt: HostRuntime) {
     for (kind, lives) in LIVES {
         for (failing, life) in lives.into_iter().enumerate() {
-            let calls = Calls::new(failing as u64, kind);
-            assert!(rt; live(&rt, &calls, 1_024, 2_048) == life, "call {failing}");
+            expect(&rt, 1_024, 2_048, failing as u64, kind, life);
         }
     }
 }
@@ -190,13 +211,17 @@ const NOT_BLANK: [(ErrorKind, [FileFault; 3]); 2] = [
     ),
 ];
 
+/// Why there is no blank disk.
+fn refused(calls: &Calls) -> Option<FileFault> {
+    FileDisk::blank(file(calls, 0, 2_048), Layout::Packed).err()
+}
+
 #[test]
 fn each_call_of_a_blank_disk_that_fails_is_answered(rt: HostRuntime) {
     for (kind, faults) in NOT_BLANK {
         for (failing, fault) in faults.into_iter().enumerate() {
             let calls = Calls::new(failing as u64, kind);
-            let answer = FileDisk::blank(file(&calls, 0, 2_048), Layout::Packed).err();
-            assert!(rt; answer == Some(fault), "call {failing}");
+            assert!(rt; refused(&calls) == Some(fault), "call {failing}");
         }
     }
 }
@@ -223,17 +248,12 @@ const SHORT: [(u64, usize, u64, ErrorKind, Life); 12] = [
 #[test]
 fn short_moves_are_finished(rt: HostRuntime) {
     for (length, most, failing, kind, life) in SHORT {
-        let calls = Calls::new(failing, kind);
-        assert!(rt;
-            live(&rt, &calls, length, most) == life,
-            "{length} and {most} octets"
-        );
+        expect(&rt, length, most, failing, kind, life);
     }
 }
 
 /// The copy ends where the file does, and no more is waited for.
 #[test]
 fn a_file_that_has_less_than_it_says_is_no_disk(rt: HostRuntime) {
-    let calls = Calls::new(0, ErrorKind::Other);
-    assert!(rt; live(&rt, &calls, 2_560, 2_048) == NO_DEVICE);
+    expect(&rt, 2_560, 2_048, 0, ErrorKind::Other, NO_DEVICE);
 }

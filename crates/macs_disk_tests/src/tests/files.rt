@@ -2,9 +2,8 @@
 //! files are refused.
 
 use super::Call::{Fill, Read, Sync};
-use super::{Call, make};
+use super::{Call, done, expect, is_missing, make};
 use macs_disk::{ClaimedFile, FileDisk, FileFault, SectorDisk, make_file};
-use std::alloc::AllocError;
 use std::fs::File;
 use std::os::fd::AsRawFd;
 use std::os::unix::fs::PermissionsExt;
@@ -45,9 +44,9 @@ fn zeros(rt: &impl Files<File = File>, path: &str, octets: u64) -> io::Result<()
     fs::create(rt, path)?.set_len(octets)
 }
 
-fn has_octets(rt: &impl Files<File = File>, path: &str) -> io::Result<u64> {
+fn has_octets(rt: &impl Files<File = File>, path: &str, octets: u64) -> io::Result<bool> {
     let about = fs::metadata(rt, path)?;
-    Ok(about.len())
+    Ok(about.len() == octets)
 }
 
 fn is_private(rt: &impl Files<File = File>, path: &str) -> io::Result<bool> {
@@ -55,17 +54,15 @@ fn is_private(rt: &impl Files<File = File>, path: &str) -> io::Result<bool> {
     Ok(about.permissions().mode() & 0o077 == 0)
 }
 
-/// The disk that is there next, and how many sectors it has or why it is the one before.
-fn replaced(
-    stood: Option<FileDisk>,
-    new: Result<FileDisk, FileFault>,
-) -> (Option<FileDisk>, Answer) {
+/// Puts a new disk in the place of the present one. How many sectors it has, or why there is none.
+fn replace(disk: &mut Option<FileDisk>, new: Result<FileDisk, FileFault>) -> Answer {
     match new {
-        Ok(disk) => {
-            let sectors = disk.sectors();
-            (Some(disk), Ok(sectors))
+        Ok(new) => {
+            let sectors = new.sectors();
+            *disk = Some(new);
+            Ok(sectors)
         }
-        Err(fault) => (stood, Err(fault)),
+        Err(fault) => Err(fault),
     }
 }
 
@@ -78,82 +75,67 @@ fn is_done(rt: &impl Abort, disk: &mut Option<FileDisk>, call: Call) -> bool {
 }
 
 /// Whether there is no file NAME.new, which an opening makes for a while.
-fn is_alone(rt: &(impl Files<File = File> + AllocGlobal), path: &str) -> Result<bool, AllocError> {
+fn is_alone(rt: &(impl Files<File = File> + AllocGlobal), path: &str) -> io::Result<bool> {
     let new = format!(in rt.alloc(); "{path}.new")?;
     Ok(!matches!(fs::exists(rt, &new), Ok(true)))
 }
 
-/// Opens the disk, with this answer.
-fn opened(
-    rt: &(impl Abort + Files<File = File> + AllocGlobal),
+/// Opens the disk: whether with this answer.
+fn opens(
+    rt: &(impl Files<File = File> + AllocGlobal),
     path: &str,
-    disk: Option<FileDisk>,
+    disk: &mut Option<FileDisk>,
     wanted: Answer,
-) -> Result<Option<FileDisk>, Fail> {
-    let (next, answer) = replaced(disk, FileDisk::open(rt, rt.alloc(), path));
-    assert!(rt; answer == wanted);
-    assert!(rt; is_alone(rt, path)?);
-    Ok(next)
+) -> io::Result<bool> {
+    let answer = replace(disk, FileDisk::open(rt, rt.alloc(), path));
+    Ok(answer == wanted && is_alone(rt, path)?)
 }
 
-/// Makes a disk of so many sectors, with this answer.
-fn created(
-    rt: &(impl Abort + Files<File = File> + AllocGlobal),
+/// Makes a disk of so many sectors: whether with this answer.
+fn creates(
+    rt: &(impl Files<File = File> + AllocGlobal),
     path: &str,
-    disk: Option<FileDisk>,
+    disk: &mut Option<FileDisk>,
     sectors: u64,
     wanted: Answer,
-) -> Result<Option<FileDisk>, Fail> {
-    let (next, answer) = replaced(disk, FileDisk::create(rt, rt.alloc(), path, sectors));
-    assert!(rt; answer == wanted);
-    assert!(rt; is_alone(rt, path)?);
-    Ok(next)
+) -> io::Result<bool> {
+    let answer = replace(disk, FileDisk::create(rt, rt.alloc(), path, sectors));
+    Ok(answer == wanted && is_alone(rt, path)?)
 }
 
 /// Takes one step.
 fn take(
     rt: &(impl Abort + Files<File = File> + AllocGlobal),
     path: &str,
-    mut disk: Option<FileDisk>,
+    disk: &mut Option<FileDisk>,
     step: Step,
-) -> Result<Option<FileDisk>, Fail> {
+) {
     match step {
-        Zeros(octets) => zeros(rt, path, octets)?,
-        Open(wanted) => return opened(rt, path, disk, wanted),
-        Create(sectors, wanted) => return created(rt, path, disk, sectors, wanted),
-        Make(call) => assert!(rt; is_done(rt, &mut disk, call)),
-        Fails(call) => assert!(rt; !is_done(rt, &mut disk, call)),
-        Close => return Ok(None),
-        HasOctets(wanted) => assert_eq!(rt; has_octets(rt, path)?, wanted),
-        IsPrivate => assert!(rt; is_private(rt, path)?),
-        IsMissing => assert!(rt; !fs::exists(rt, path)?),
+        Zeros(octets) => done(rt, zeros(rt, path, octets)),
+        Open(wanted) => expect(rt, opens(rt, path, disk, wanted)),
+        Create(sectors, wanted) => expect(rt, creates(rt, path, disk, sectors, wanted)),
+        Make(call) => expect(rt, Ok(is_done(rt, disk, call))),
+        Fails(call) => expect(rt, Ok(!is_done(rt, disk, call))),
+        Close => *disk = None,
+        HasOctets(wanted) => expect(rt, has_octets(rt, path, wanted)),
+        IsPrivate => expect(rt, is_private(rt, path)),
+        IsMissing => expect(rt, is_missing(rt, path)),
     }
-    Ok(disk)
 }
 
 /// Takes steps, one after the other, from no disk on.
-fn play(
-    rt: &(impl Abort + Files<File = File> + AllocGlobal),
-    path: &str,
-    story: &[Step],
-) -> Result<(), Fail> {
+fn play(rt: &(impl Abort + Files<File = File> + AllocGlobal), path: &str, story: &[Step]) {
     let mut disk = None;
     for step in story {
-        disk = take(rt, path, disk, *step)?;
+        take(rt, path, &mut disk, *step);
     }
-    Ok(())
 }
 
 /// Takes steps on a file that is not there at first, and that is removed at the end.
-fn begin(
-    rt: &(impl Abort + Files<File = File> + AllocGlobal),
-    path: &str,
-    story: &[Step],
-) -> Result<(), Fail> {
+fn begin(rt: &(impl Abort + Files<File = File> + AllocGlobal), path: &str, story: &[Step]) {
     let _ = fs::remove_file(rt, path);
-    play(rt, path, story)?;
-    fs::remove_file(rt, path)?;
-    Ok(())
+    play(rt, path, story);
+    done(rt, fs::remove_file(rt, path));
 }
 
 const FOUND_AGAIN: &[Step] = &[
@@ -179,8 +161,8 @@ const FOUND_AGAIN: &[Step] = &[
 ];
 
 #[test]
-fn what_was_written_is_found_again(rt: HostRuntime) -> Result<(), Fail> {
-    begin(&rt, "disk-found-again", FOUND_AGAIN)
+fn what_was_written_is_found_again(rt: HostRuntime) {
+    begin(&rt, "disk-found-again", FOUND_AGAIN);
 }
 
 /// A file is lengthened with zeros, and neither cut nor emptied.
@@ -208,8 +190,8 @@ const LENGTHENED: &[Step] = &[
 ];
 
 #[test]
-fn a_file_is_lengthened_and_never_cut(rt: HostRuntime) -> Result<(), Fail> {
-    begin(&rt, "disk-lengthened", LENGTHENED)
+fn a_file_is_lengthened_and_never_cut(rt: HostRuntime) {
+    begin(&rt, "disk-lengthened", LENGTHENED);
 }
 
 /// 1,028 sectors are 526,336 octets.
@@ -237,8 +219,8 @@ const LENGTHS: &[Step] = &[
 ];
 
 #[test]
-fn a_file_is_whole_sectors(rt: HostRuntime) -> Result<(), Fail> {
-    begin(&rt, "disk-lengths", LENGTHS)
+fn a_file_is_whole_sectors(rt: HostRuntime) {
+    begin(&rt, "disk-lengths", LENGTHS);
 }
 
 /// The octets of so many sectors cannot be counted.
@@ -253,8 +235,8 @@ const TOO_MANY: &[Step] = &[
 ];
 
 #[test]
-fn too_many_sectors_are_refused(rt: HostRuntime) -> Result<(), Fail> {
-    begin(&rt, "disk-too-many", TOO_MANY)
+fn too_many_sectors_are_refused(rt: HostRuntime) {
+    begin(&rt, "disk-too-many", TOO_MANY);
 }
 
 /// While a disk is there its file is not opened again.
@@ -279,8 +261,8 @@ const CLAIMED: &[Step] = &[
 ];
 
 #[test]
-fn a_file_has_one_disk_at_a_time(rt: HostRuntime) -> Result<(), Fail> {
-    begin(&rt, "disk-claimed", CLAIMED)
+fn a_file_has_one_disk_at_a_time(rt: HostRuntime) {
+    begin(&rt, "disk-claimed", CLAIMED);
 }
 
 /// A sector that the file no longer has whole is not read. Each later call of that disk fails, and
@@ -310,21 +292,20 @@ const CUT: &[Step] = &[
 ];
 
 #[test]
-fn a_file_that_ends_early_fails_its_reads(rt: HostRuntime) -> Result<(), Fail> {
-    begin(&rt, "disk-cut", CUT)
+fn a_file_that_ends_early_fails_its_reads(rt: HostRuntime) {
+    begin(&rt, "disk-cut", CUT);
 }
 
 /// A folder, a file in a folder that is not there, and a name that no file has.
 #[test]
-fn what_cannot_be_opened_is_refused(rt: HostRuntime) -> Result<(), Fail> {
+fn what_cannot_be_opened_is_refused(rt: HostRuntime) {
     for path in [".", "no-such-folder/disk", "disk\0", ""] {
         play(
             &rt,
             path,
             &[Open(Err(FileFault::Open)), Create(1, Err(FileFault::Open))],
-        )?;
+        );
     }
-    Ok(())
 }
 
 /// A pipe has no name in a folder.
@@ -338,25 +319,30 @@ const PIPE: &[Step] = &[
 fn a_pipe_is_no_disk(rt: HostRuntime) -> Result<(), Fail> {
     let (reader, _writer) = io::pipe(&rt)?;
     let path = format!(in rt.alloc(); "/proc/self/fd/{}", reader.as_raw_fd())?;
-    play(&rt, path.as_str(), PIPE)
+    play(&rt, path.as_str(), PIPE);
+    Ok(())
 }
 
 /// A file that can be claimed and measured, in a folder where none can be made.
 #[test]
-fn what_has_no_room_beside_it_is_no_disk(rt: HostRuntime) -> Result<(), Fail> {
-    play(&rt, "/proc/self/comm", &[Open(Err(FileFault::Open))])
+fn what_has_no_room_beside_it_is_no_disk(rt: HostRuntime) {
+    play(&rt, "/proc/self/comm", &[Open(Err(FileFault::Open))]);
+}
+
+/// Why there is no disk in the copy of an empty file.
+fn refused(rt: &impl Abort, old: File, new: File) -> Option<FileFault> {
+    let Ok(mut old) = ClaimedFile::of(old) else {
+        panic!(rt; "not claimed");
+    };
+    FileDisk::over(&mut old, new, 0).err()
 }
 
 /// The copy of an empty file is made in a file that the system does not sync.
 #[test]
 fn what_cannot_be_synced_is_no_disk(rt: HostRuntime) -> Result<(), Fail> {
-    let file = make_file(&rt, "disk-not-synced")?;
-    let Ok(mut old) = ClaimedFile::of(file) else {
-        panic!(rt; "not claimed");
-    };
+    let old = make_file(&rt, "disk-not-synced")?;
     let new = make_file(&rt, "/proc/self/comm")?;
-    let answer = FileDisk::over(&mut old, new, 0).err();
-    assert!(rt; answer == Some(FileFault::Device));
-    fs::remove_file(&rt, "disk-not-synced")?;
+    assert!(rt; refused(&rt, old, new) == Some(FileFault::Device));
+    done(&rt, fs::remove_file(&rt, "disk-not-synced"));
     Ok(())
 }

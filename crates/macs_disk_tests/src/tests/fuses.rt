@@ -2,10 +2,9 @@
 
 use super::Call::{Fill, Read, Sync};
 use super::Step::{Crash, Find, Tear};
-use super::{Call, Found, blank, full, make, play, stopped, take};
-use macs_disk::{DeviceFault, Fuse, MemDisk, SectorDisk};
+use super::{Call, Found, blank, full, make, make_all, play, stopped, take};
+use macs_disk::{Fuse, MemDisk, SectorDisk};
 use std::process::Abort;
-use std::test::Fail;
 
 const STORY: &[Call] = &[
     Fill(0, 1),
@@ -32,37 +31,32 @@ const AFTER: [(Found, Found, u8); 9] = [
 ];
 
 /// What is found of both sectors, and whether the second one is pending: 9 is chosen for it then.
-fn stand(
-    rt: &impl Abort,
-    disk: &mut MemDisk,
-    first: Found,
-    second: Found,
-) -> Result<(), DeviceFault> {
-    play(rt, disk, &[Find(0, first), Find(1, second)])?;
-    take(rt, disk, Tear(1, 9, second.2))
-}
-
-/// What a power loss leaves of them.
-fn remain(rt: &impl Abort, disk: &mut MemDisk, first: u8, second: u8) -> Result<(), DeviceFault> {
-    take(rt, disk, Crash)?;
+fn stand(rt: &impl Abort, disk: &mut MemDisk, first: Found, second: Found) {
+    let pending = second.2;
     play(
         rt,
         disk,
-        &[
-            Find(0, (first, first, false)),
-            Find(1, (second, second, false)),
-        ],
-    )
+        &[Find(0, first), Find(1, second), Tear(1, 9, pending)],
+    );
+}
+
+/// What a power loss leaves of them.
+fn remain(rt: &impl Abort, disk: &mut MemDisk, first: u8, second: u8) {
+    let story = [
+        Crash,
+        Find(0, (first, first, false)),
+        Find(1, (second, second, false)),
+    ];
+    play(rt, disk, &story);
 }
 
 #[test]
-fn a_fuse_stops_a_story_at_each_call(rt: HostRuntime) -> Result<(), Fail> {
+fn a_fuse_stops_a_story_at_each_call(rt: HostRuntime) {
     for (calls, (first, second, left)) in AFTER.into_iter().enumerate() {
-        let mut disk = stopped(&rt, blank(&rt, rt.alloc(), 2)?, STORY, calls);
-        stand(&rt, &mut disk, first, second)?;
-        remain(&rt, &mut disk, first.0, left)?;
+        let mut disk = stopped(&rt, blank(&rt, rt.alloc(), 2), STORY, calls);
+        stand(&rt, &mut disk, first, second);
+        remain(&rt, &mut disk, first.0, left);
     }
-    Ok(())
 }
 
 /// What a write that fails leaves in its sector.
@@ -136,19 +130,16 @@ const BLOWN: [(usize, [Call; 3], Found, Found); 11] = [
 /// Makes calls of a disk behind a fuse that fails one of them, and gives the disk back.
 fn blown<D: SectorDisk>(rt: &impl Abort, disk: D, calls: [Call; 3], failing: usize) -> D {
     let mut fuse = Fuse::once(disk, failing as u64, full(LEFT));
-    for (i, call) in calls.into_iter().enumerate() {
-        assert_eq!(rt; make(rt, &mut fuse, call).is_ok(), i != failing, "call {i}");
-    }
+    make_all(rt, &mut fuse, &calls, failing..failing.saturating_add(1));
     fuse.into_inner()
 }
 
 #[test]
-fn a_fuse_fails_one_call_of_each_kind(rt: HostRuntime) -> Result<(), Fail> {
+fn a_fuse_fails_one_call_of_each_kind(rt: HostRuntime) {
     for (failing, calls, first, second) in BLOWN {
-        let mut disk = blown(&rt, blank(&rt, rt.alloc(), 2)?, calls, failing);
-        play(&rt, &mut disk, &[Find(0, first), Find(1, second)])?;
+        let mut disk = blown(&rt, blank(&rt, rt.alloc(), 2), calls, failing);
+        play(&rt, &mut disk, &[Find(0, first), Find(1, second)]);
     }
-    Ok(())
 }
 
 /// What a write that the fuse behind the other one fails leaves in its sector.
@@ -203,28 +194,32 @@ const TWICE_BLOWN: [(u64, u64, [(Call, bool); 4], Found); 4] = [
     ),
 ];
 
+/// Makes calls of a disk, each of which is done or not.
+fn make_each<D: SectorDisk>(rt: &impl Abort, disk: &mut D, calls: [(Call, bool); 4]) {
+    for (call, done) in calls {
+        assert!(rt; make(rt, disk, call).is_ok() == done);
+    }
+}
+
 /// Makes calls of a disk behind two fuses, and gives the disk back.
-fn twice_blown(
+fn twice_blown<D: SectorDisk>(
     rt: &impl Abort,
-    disk: MemDisk,
+    disk: D,
     front: u64,
     behind: u64,
     calls: [(Call, bool); 4],
-) -> MemDisk {
+) -> D {
     let inner = Fuse::once(disk, behind, full(LEFT_BEHIND));
-    let mut fuse: Fuse<Fuse<MemDisk>> = Fuse::once(inner, front, full(LEFT));
-    for (call, done) in calls {
-        assert!(rt; make(rt, &mut fuse, call).is_ok() == done);
-    }
+    let mut fuse = Fuse::once(inner, front, full(LEFT));
+    make_each(rt, &mut fuse, calls);
     fuse.into_inner().into_inner()
 }
 
 #[test]
-fn two_fuses_fail_one_call_each(rt: HostRuntime) -> Result<(), Fail> {
+fn two_fuses_fail_one_call_each(rt: HostRuntime) {
     for (front, behind, calls, found) in TWICE_BLOWN {
-        let disk = blank(&rt, rt.alloc(), 1)?;
+        let disk = blank(&rt, rt.alloc(), 1);
         let mut disk = twice_blown(&rt, disk, front, behind, calls);
-        take(&rt, &mut disk, Find(0, found))?;
+        take(&rt, &mut disk, Find(0, found));
     }
-    Ok(())
 }

@@ -128,13 +128,15 @@ fn is_due(rt: &impl Abort, folder: &MemFolder) -> bool {
     named(rt, folder).is_due() || beside(rt, folder).is_due()
 }
 
+fn is_made(folder: &MemFolder, layout: Layout) -> bool {
+    make_disk(folder, layout).is_ok()
+}
+
 /// The folder of a new disk of zeros. Where this sync fails while it is made, it is made once more.
 fn blank(rt: &impl Abort, alloc: Global, ground: Ground, failing: u64) -> MemFolder {
     let folder = folder(rt, alloc, ground);
     fail_sync(rt, &folder, failing, 0);
-    if make_disk(&folder, ground.layout).is_err() {
-        assert!(rt; make_disk(&folder, ground.layout).is_ok());
-    }
+    assert!(rt; is_made(&folder, ground.layout) || is_made(&folder, ground.layout));
     assert!(rt; !is_due(rt, &folder));
     named(rt, &folder).close();
     folder
@@ -152,7 +154,7 @@ fn open<'a>(rt: &impl Abort, folder: &'a MemFolder) -> Disk<'a> {
     }
 }
 
-fn open_again<'a>(rt: &impl Abort, folder: &'a MemFolder) -> Disk<'a> {
+pub(super) fn open_again<'a>(rt: &impl Abort, folder: &'a MemFolder) -> Disk<'a> {
     match open_disk(folder, 0) {
         Ok(disk) => disk,
         Err(_) => panic!(rt; "not opened"),
@@ -169,12 +171,25 @@ fn go_on<'a>(rt: &impl Abort, folder: &'a MemFolder, going: Going) -> Disk<'a> {
 }
 
 /// The octet that a sector is full of, of a disk that does not fail.
-fn octet(rt: &impl Abort, disk: &mut Disk<'_>, at: usize) -> u8 {
+fn octet<D: SectorDisk>(rt: &impl Abort, disk: &mut D, at: usize) -> u8 {
     seen(rt, disk, at as u64).expect(rt, "a sector")
 }
 
-/// Writes a sector and syncs it. Where that fails, the next program goes on, and takes the sector
-/// as it finds it: as before or as written.
+/// Writes a sector and syncs it. Whether that was done.
+fn is_kept<D: SectorDisk>(rt: &impl Abort, disk: &mut D, at: u64, octet: u8) -> bool {
+    fill(rt, disk, at, octet).is_ok() && disk.sync().is_ok()
+}
+
+/// Takes a sector as it is found: as before or as written.
+fn learn<D: SectorDisk>(rt: &impl Abort, disk: &mut D, known: &mut Known, write: (usize, u8)) {
+    let (at, written) = write;
+    let found = octet(rt, disk, at);
+    assert!(rt; at < known.len());
+    assert!(rt; found == known[at] || found == written);
+    known[at] = found;
+}
+
+/// Writes a sector and syncs it. Where that fails, the next program goes on with what it finds.
 fn keep<'a>(
     rt: &impl Abort,
     folder: &'a MemFolder,
@@ -184,21 +199,18 @@ fn keep<'a>(
     going: Going,
 ) -> Disk<'a> {
     let (at, written) = write;
-    assert!(rt; at < known.len());
-    let is_kept = fill(rt, &mut disk, at as u64, written).is_ok() && disk.sync().is_ok();
-    if is_kept {
+    if is_kept(rt, &mut disk, at as u64, written) {
+        assert!(rt; at < known.len());
         known[at] = written;
         return disk;
     }
     let mut disk = go_on(rt, folder, going);
-    let found = octet(rt, &mut disk, at);
-    assert!(rt; found == known[at] || found == written);
-    known[at] = found;
+    learn(rt, &mut disk, known, write);
     disk
 }
 
 /// The sectors but the first, as reads give them.
-fn found(rt: &impl Abort, disk: &mut Disk<'_>) -> Known {
+fn found<D: SectorDisk>(rt: &impl Abort, disk: &mut D) -> Known {
     let mut found = [0; SECTORS];
     for at in 1..found.len() {
         found[at] = octet(rt, disk, at);
@@ -206,30 +218,45 @@ fn found(rt: &impl Abort, disk: &mut Disk<'_>) -> Known {
     found
 }
 
+/// Whether a sector is full of an octet.
+fn is_full<D: SectorDisk>(rt: &impl Abort, disk: &mut D, at: u64, octet: u8) -> bool {
+    let mut sector = [0; 512];
+    assert!(rt; at < disk.sectors());
+    assert!(rt; disk.read(at, &mut sector).is_ok());
+    sector == full(octet)
+}
+
 /// Whether the sectors but the first are as they are known.
-fn has(rt: &impl Abort, disk: &mut Disk<'_>, known: &Known) -> bool {
+fn has<D: SectorDisk>(rt: &impl Abort, disk: &mut D, known: &Known) -> bool {
     for at in 1..known.len() {
-        let mut sector = [0; 512];
-        assert!(rt; (at as u64) < disk.sectors());
-        assert!(rt; disk.read(at as u64, &mut sector).is_ok());
-        if sector != full(known[at]) {
+        if !is_full(rt, disk, at as u64, known[at]) {
             return false;
         }
     }
     true
 }
 
-/// Makes a trial: whether all that was acknowledged is there.
-fn holds(rt: &impl Abort, folder: &MemFolder, trial: Trial) -> bool {
-    fail_sync(rt, folder, trial.failing, trial.reached);
+/// Opens the disk and makes the writes. What is known then.
+fn keep_all<'a>(rt: &impl Abort, folder: &'a MemFolder, going: Going) -> (Disk<'a>, Known) {
     let mut disk = open(rt, folder);
     let mut known = found(rt, &mut disk);
     for write in WRITES {
-        disk = keep(rt, folder, disk, &mut known, write, trial.going);
+        disk = keep(rt, folder, disk, &mut known, write, going);
     }
-    assert!(rt; !is_due(rt, folder));
+    (disk, known)
+}
+
+fn write_last<D: SectorDisk>(rt: &impl Abort, disk: &mut D) {
     let (at, last) = LAST;
-    assert!(rt; fill(rt, &mut disk, at as u64, last).is_ok());
+    assert!(rt; fill(rt, disk, at as u64, last).is_ok());
+}
+
+/// Makes a trial: whether all that was acknowledged is there.
+fn holds(rt: &impl Abort, folder: &MemFolder, trial: Trial) -> bool {
+    fail_sync(rt, folder, trial.failing, trial.reached);
+    let (mut disk, known) = keep_all(rt, folder, trial.going);
+    assert!(rt; !is_due(rt, folder));
+    write_last(rt, &mut disk);
     named(rt, folder).press();
     assert!(rt; has(rt, &mut disk, &known));
     named(rt, folder).crash(trial.left);

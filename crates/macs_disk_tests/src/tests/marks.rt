@@ -1,7 +1,7 @@
 //! The mark of a spaced file: which files have it.
 
-use super::full;
 use super::kernel_files::{SPACED, folder, named};
+use super::{full, sectors};
 use macs_disk::{DiskFile, SectorDisk};
 use macs_fixtures::{MemFolder, open_disk};
 use std::process::Abort;
@@ -31,27 +31,24 @@ fn begins_with(rt: &impl Abort, folder: &MemFolder, octet: u8) -> bool {
     sector == full(octet)
 }
 
-/// How many sectors a disk in the file has, of no fewer than so many.
-fn sectors(rt: &impl Abort, folder: &MemFolder, least: u64) -> u64 {
-    match open_disk(folder, least) {
-        Ok(disk) => disk.sectors(),
-        Err(_) => panic!(rt; "no disk"),
-    }
+/// A disk in the file, of no fewer sectors than `least`, has so many.
+fn expect(rt: &impl Abort, folder: &MemFolder, least: u64, wanted: u64) {
+    assert!(rt; sectors(open_disk(folder, least)) == Ok(wanted));
 }
 
 #[test]
 fn a_file_that_ends_with_the_mark_is_spaced(rt: HostRuntime) {
     let folder = folder(&rt, rt.alloc(), SPACED);
     write(&rt, &folder, MARK_PLACE, &marked());
-    assert!(rt; sectors(&rt, &folder, 0) == 1_028);
-    assert!(rt; sectors(&rt, &folder, 1_028) == 1_028);
+    expect(&rt, &folder, 0, 1_028);
+    expect(&rt, &folder, 1_028, 1_028);
 }
 
 #[test]
 fn a_packed_file_that_is_lengthened_is_packed(rt: HostRuntime) {
     let folder = folder(&rt, rt.alloc(), SPACED);
     write(&rt, &folder, 0, &full(1));
-    assert!(rt; sectors(&rt, &folder, OVER_THE_MARK) == OVER_THE_MARK);
-    assert!(rt; sectors(&rt, &folder, 0) == OVER_THE_MARK);
+    expect(&rt, &folder, OVER_THE_MARK, OVER_THE_MARK);
+    expect(&rt, &folder, 0, OVER_THE_MARK);
     assert!(rt; begins_with(&rt, &folder, 1));
 }

@@ -5,17 +5,16 @@ use super::Call::{Fill, Read, Sync};
 use super::Step::{Find, Make};
 use super::{Call, Found, begin, blank, found, make, play, take};
 use linked_list_allocator::LocalHeap;
-use macs_disk::{DeviceFault, MemDisk, MemFault};
+use macs_disk::{MemDisk, MemFault};
 use std::alloc::{Allocator, Global};
 use std::process::Abort;
 use std::test::Fail;
 
 #[test]
-fn has_1_to_65536_sectors(rt: HostRuntime) -> Result<(), Fail> {
+fn has_1_to_65536_sectors(rt: HostRuntime) {
     for (sectors, last) in [(1, 0), (65_536, 65_535)] {
-        begin(&rt, rt.alloc(), sectors, &[Find(last, (0, 0, false))])?;
+        begin(&rt, rt.alloc(), sectors, &[Find(last, (0, 0, false))]);
     }
-    Ok(())
 }
 
 #[test]
@@ -27,8 +26,8 @@ fn other_sizes_are_refused(rt: HostRuntime) {
 
 /// In ample memory no call is refused, however many the record has.
 #[test]
-fn two_thousand_calls_are_done(rt: HostRuntime) -> Result<(), Fail> {
-    let mut disk = blank(&rt, rt.alloc(), 8)?;
+fn two_thousand_calls_are_done(rt: HostRuntime) {
+    let mut disk = blank(&rt, rt.alloc(), 8);
     for round in 0..1_000_u16 {
         let at = u64::from(round % 8);
         let octet = (round % 251) as u8;
@@ -37,9 +36,8 @@ fn two_thousand_calls_are_done(rt: HostRuntime) -> Result<(), Fail> {
             Make(Sync),
             Find(at, (octet, octet, false)),
         ];
-        play(&rt, &mut disk, &story)?;
+        play(&rt, &mut disk, &story);
     }
-    Ok(())
 }
 
 /// Eight rounds of a write and a sync, the sync last or first.
@@ -116,12 +114,12 @@ fn attempt<A: Allocator>(
     disk: &mut MemDisk<A>,
     call: Call,
     ever: &mut Ever,
-) -> Result<bool, DeviceFault> {
-    let before = found(rt, disk, 0)?;
+) -> bool {
+    let before = found(rt, disk, 0);
     let is_refused = make(rt, disk, call).is_err();
     ever.note(call, is_refused);
-    take(rt, disk, Find(0, after(before, call, is_refused)))?;
-    Ok(is_refused)
+    take(rt, disk, Find(0, after(before, call, is_refused)));
+    is_refused
 }
 
 /// Makes calls, and says whether one of them was refused.
@@ -130,12 +128,28 @@ fn attempt_all<A: Allocator>(
     disk: &mut MemDisk<A>,
     calls: &[Call],
     ever: &mut Ever,
-) -> Result<bool, DeviceFault> {
+) -> bool {
     let mut is_any_refused = false;
     for call in calls {
-        is_any_refused |= attempt(rt, disk, *call, ever)?;
+        is_any_refused |= attempt(rt, disk, *call, ever);
     }
-    Ok(is_any_refused)
+    is_any_refused
+}
+
+/// Makes calls of a disk, if there is memory for it.
+fn attempt_on<A: Allocator>(
+    rt: &impl Abort,
+    disk: Result<MemDisk<A>, MemFault>,
+    calls: &[Call],
+    ever: &mut Ever,
+) {
+    match disk {
+        Ok(mut disk) => ever.nothing |= !attempt_all(rt, &mut disk, calls, ever),
+        Err(fault) => {
+            assert!(rt; fault == MemFault::Memory);
+            ever.disk = true;
+        }
+    }
 }
 
 /// Makes calls of a disk in a heap of so many octets.
@@ -147,13 +161,7 @@ fn attempt_in(
     ever: &mut Ever,
 ) -> Result<(), Fail> {
     let heap = LocalHeap::new(alloc, octets)?;
-    match MemDisk::new(&heap, 2) {
-        Ok(mut disk) => ever.nothing |= !attempt_all(rt, &mut disk, calls, ever)?,
-        Err(fault) => {
-            assert!(rt; fault == MemFault::Memory);
-            ever.disk = true;
-        }
-    }
+    attempt_on(rt, MemDisk::new(&heap, 2), calls, ever);
     Ok(())
 }
 

@@ -1,7 +1,8 @@
 //! Openings of a disk over a system each of whose calls fails in turn, or where the file's name is
 //! another's meanwhile.
 
-use macs_disk::{DiskFile, FileDisk, FileFault, SectorDisk};
+use super::{done, expect, is_missing, sectors};
+use macs_disk::{DiskFile, FileDisk, FileFault};
 use std::alloc::Allocator;
 use std::cell::Cell;
 use std::fs::{File, Metadata, OpenFile, OpenOptions, Permissions};
@@ -10,7 +11,6 @@ use std::os::unix::fs::{MetadataExt, PermissionsExt};
 use std::path::PathBuf;
 use std::process::Abort;
 use std::rt::Files;
-use std::test::Fail;
 use std::{fs, io};
 
 /// The calls of the system and of its files, of which one fails.
@@ -285,8 +285,7 @@ fn open<R: Files<File = File> + AllocGlobal>(
         calls,
         oddity,
     };
-    let disk = FileDisk::open(&system, rt.alloc(), path)?;
-    Ok(disk.sectors())
+    sectors(FileDisk::open(&system, rt.alloc(), path))
 }
 
 const DISK: &str = "renewal-disk";
@@ -325,142 +324,168 @@ const CALLS: [FileFault; 20] = [
 /// Which of them is the rename.
 const RENAME: u64 = 18;
 
+/// What the system knows of the file of the disk.
+fn about(rt: &(impl Abort + Files<File = File>)) -> Metadata {
+    match fs::metadata(rt, DISK) {
+        Ok(about) => about,
+        Err(_) => panic!(rt; "no file"),
+    }
+}
+
+/// Makes that file.
+fn made(rt: &(impl Abort + Files<File = File>)) -> Metadata {
+    done(rt, make(rt, DISK, &octets(3, 4)));
+    about(rt)
+}
+
 /// Opens the disk where this call fails, with this fault. The name is that of a file with all
 /// octets then: of the new one only once the file was renamed.
-fn fail<R: Abort + Files<File = File> + AllocGlobal>(
-    rt: &R,
-    calls: &Calls,
-    fault: FileFault,
-) -> Result<(), Fail> {
-    make(rt, DISK, &octets(3, 4))?;
-    let before = fs::metadata(rt, DISK)?;
+fn fail<R: Abort + Files<File = File> + AllocGlobal>(rt: &R, calls: &Calls, fault: FileFault) {
+    let before = made(rt);
+    let failing = calls.failing;
     let answer = open(rt, calls, Oddity::Nothing, DISK);
-    assert!(rt; answer == Err(fault), "call {}", calls.failing);
-    assert!(rt; has(rt, DISK, &octets(3, 4))?, "call {}", calls.failing);
-    let is_new = fs::metadata(rt, DISK)?.ino() != before.ino();
-    assert!(rt;
-        is_new == (calls.failing > RENAME),
-        "call {}",
-        calls.failing
-    );
-    expect_private(rt, before.uid())
+    assert!(rt; answer == Err(fault), "call {failing}");
+    let is_new = about(rt).ino() != before.ino();
+    assert!(rt; is_new == (failing > RENAME), "call {failing}");
+    expect(rt, has(rt, DISK, &octets(3, 4)));
+    expect_private(rt, before.uid());
 }
 
 /// What lies beside the disk is for its owner alone, unless that is the owner of the disk.
-fn expect_private<R: Abort + Files<File = File>>(rt: &R, owner: u32) -> Result<(), Fail> {
-    if fs::exists(rt, NEW)? {
-        let about = fs::metadata(rt, NEW)?;
-        assert!(rt; about.uid() == owner || about.mode() & 0o077 == 0);
+fn expect_private<R: Abort + Files<File = File>>(rt: &R, owner: u32) {
+    match fs::metadata(rt, NEW) {
+        Ok(about) => assert!(rt; about.uid() == owner || about.mode() & 0o077 == 0),
+        Err(error) => assert!(rt; error.kind() == ErrorKind::NotFound),
     }
-    Ok(())
 }
 
 /// The next opening of the disk is done, and leaves nothing behind.
-fn open_next<R: Abort + Files<File = File> + AllocGlobal>(rt: &R) -> Result<(), Fail> {
+fn open_next<R: Abort + Files<File = File> + AllocGlobal>(rt: &R) {
     assert!(rt; open(rt, &Calls::all_done(), Oddity::Nothing, DISK) == Ok(2));
-    assert!(rt; has(rt, DISK, &octets(3, 4))?);
-    assert!(rt; !fs::exists(rt, NEW)?);
-    Ok(())
+    expect(rt, has(rt, DISK, &octets(3, 4)));
+    expect(rt, is_missing(rt, NEW));
 }
 
 #[test]
-fn each_call_of_an_opening_that_fails_is_answered(rt: HostRuntime) -> Result<(), Fail> {
+fn each_call_of_an_opening_that_fails_is_answered(rt: HostRuntime) {
     for (i, fault) in CALLS.into_iter().enumerate() {
-        fail(
-            &rt,
-            &Calls::new(i as u64 + 1, ErrorKind::Other, false),
-            fault,
-        )?;
-        assert!(rt; !fs::exists(&rt, NEW)?, "call {i}");
+        let calls = Calls::new(i as u64 + 1, ErrorKind::Other, false);
+        fail(&rt, &calls, fault);
+        assert!(rt; matches!(is_missing(&rt, NEW), Ok(true)), "call {i}");
     }
-    open_next(&rt)?;
-    fs::remove_file(&rt, DISK)?;
-    Ok(())
+    open_next(&rt);
+    done(&rt, fs::remove_file(&rt, DISK));
 }
 
 #[test]
-fn want_of_memory_of_an_opening_is_reported(rt: HostRuntime) -> Result<(), Fail> {
+fn want_of_memory_of_an_opening_is_reported(rt: HostRuntime) {
     for (i, fault) in CALLS.into_iter().enumerate() {
         let wanted = match fault {
             FileFault::Open => FileFault::Memory,
             other => other,
         };
         let calls = Calls::new(i as u64 + 1, ErrorKind::OutOfMemory, false);
-        fail(&rt, &calls, wanted)?;
+        fail(&rt, &calls, wanted);
     }
-    open_next(&rt)?;
-    fs::remove_file(&rt, DISK)?;
-    Ok(())
+    open_next(&rt);
+    done(&rt, fs::remove_file(&rt, DISK));
 }
 
 /// What is left beside the file is removed by the next opening.
 #[test]
-fn an_opening_that_is_cut_short_loses_nothing(rt: HostRuntime) -> Result<(), Fail> {
+fn an_opening_that_is_cut_short_loses_nothing(rt: HostRuntime) {
     for (i, fault) in CALLS.into_iter().enumerate() {
-        fail(
-            &rt,
-            &Calls::new(i as u64 + 1, ErrorKind::Other, true),
-            fault,
-        )?;
-        open_next(&rt)?;
+        let calls = Calls::new(i as u64 + 1, ErrorKind::Other, true);
+        fail(&rt, &calls, fault);
+        open_next(&rt);
     }
-    fs::remove_file(&rt, DISK)?;
-    Ok(())
+    done(&rt, fs::remove_file(&rt, DISK));
+}
+
+/// A file is another than before, of the same owner and mode.
+fn expect_alike(rt: &impl Abort, before: &Metadata, after: &Metadata) {
+    assert!(rt; after.ino() != before.ino());
+    assert!(rt; after.mode() == before.mode());
+    assert!(rt; after.uid() == before.uid() && after.gid() == before.gid());
 }
 
 /// The calls that are made where none fails, and whose file it is then.
 #[test]
-fn an_opening_makes_these_calls(rt: HostRuntime) -> Result<(), Fail> {
-    make(&rt, DISK, &octets(3, 4))?;
-    let before = fs::metadata(&rt, DISK)?;
+fn an_opening_makes_these_calls(rt: HostRuntime) {
+    let before = made(&rt);
     let calls = Calls::all_done();
     assert!(rt; open(&rt, &calls, Oddity::Nothing, DISK) == Ok(2));
-    assert_eq!(rt; calls.made.get(), CALLS.len() as u64);
-    let after = fs::metadata(&rt, DISK)?;
-    assert!(rt; after.ino() != before.ino());
-    assert!(rt; after.mode() == before.mode());
-    assert!(rt; after.uid() == before.uid() && after.gid() == before.gid());
-    fs::remove_file(&rt, DISK)?;
-    Ok(())
+    assert!(rt; calls.made.get() == CALLS.len() as u64);
+    expect_alike(&rt, &before, &about(&rt));
+    done(&rt, fs::remove_file(&rt, DISK));
+}
+
+/// A system of this oddity opens no disk in a new file of octets 3 and 4. The name is that of a
+/// file with these octets then, which is removed.
+fn refuse<R: Abort + Files<File = File> + AllocGlobal>(
+    rt: &R,
+    path: &str,
+    oddity: Oddity,
+    left: [u8; 1_024],
+) {
+    done(rt, make(rt, path, &octets(3, 4)));
+    assert!(rt; open(rt, &Calls::all_done(), oddity, path) == Err(FileFault::Open));
+    expect(rt, has(rt, path, &left));
+    done(rt, fs::remove_file(rt, path));
 }
 
 /// The name is another file's before the new one is made: neither file is touched.
 #[test]
-fn a_name_that_is_another_files_is_refused(rt: HostRuntime) -> Result<(), Fail> {
-    make(&rt, "swapped-disk", &octets(3, 4))?;
-    make(&rt, "swapped-other", &octets(5, 6))?;
+fn a_name_that_is_another_files_is_refused(rt: HostRuntime) {
+    done(&rt, make(&rt, "swapped-other", &octets(5, 6)));
     let odd = Oddity::Swaps("swapped-other");
-    let answer = open(&rt, &Calls::all_done(), odd, "swapped-disk");
-    assert!(rt; answer == Err(FileFault::Open));
-    assert!(rt; has(&rt, "swapped-disk", &octets(5, 6))?);
-    assert!(rt; !fs::exists(&rt, "swapped-disk.new")?);
-    fs::remove_file(&rt, "swapped-disk")?;
-    Ok(())
+    refuse(&rt, "swapped-disk", odd, octets(5, 6));
+    expect(&rt, is_missing(&rt, "swapped-disk.new"));
 }
 
 /// The name is not the new file's after the rename: there is no disk.
 #[test]
-fn a_name_that_is_not_the_new_files_is_refused(rt: HostRuntime) -> Result<(), Fail> {
-    make(&rt, "kept-disk", &octets(3, 4))?;
-    let answer = open(&rt, &Calls::all_done(), Oddity::RenamesNothing, "kept-disk");
-    assert!(rt; answer == Err(FileFault::Open));
-    assert!(rt; has(&rt, "kept-disk", &octets(3, 4))?);
+fn a_name_that_is_not_the_new_files_is_refused(rt: HostRuntime) {
+    refuse(&rt, "kept-disk", Oddity::RenamesNothing, octets(3, 4));
     let _ = fs::remove_file(&rt, "kept-disk.new");
-    fs::remove_file(&rt, "kept-disk")?;
-    Ok(())
 }
 
 /// What has the name of the new file again is not written: neither file is touched.
 #[test]
-fn what_lies_beside_is_not_written(rt: HostRuntime) -> Result<(), Fail> {
-    make(&rt, "beside-disk", &octets(3, 4))?;
-    make(&rt, "beside-disk.new", &octets(5, 6))?;
-    let odd = Oddity::RemovesNothing;
-    let answer = open(&rt, &Calls::all_done(), odd, "beside-disk");
-    assert!(rt; answer == Err(FileFault::Open));
-    assert!(rt; has(&rt, "beside-disk", &octets(3, 4))?);
-    assert!(rt; has(&rt, "beside-disk.new", &octets(5, 6))?);
-    fs::remove_file(&rt, "beside-disk.new")?;
-    fs::remove_file(&rt, "beside-disk")?;
-    Ok(())
+fn what_lies_beside_is_not_written(rt: HostRuntime) {
+    done(&rt, make(&rt, "beside-disk.new", &octets(5, 6)));
+    refuse(&rt, "beside-disk", Oddity::RemovesNothing, octets(3, 4));
+    expect(&rt, has(&rt, "beside-disk.new", &octets(5, 6)));
+    done(&rt, fs::remove_file(&rt, "beside-disk.new"));
+}
+
+/// How many sectors a disk has that is made over this system, or why there is none.
+fn create<R: Files<File = File> + AllocGlobal>(
+    rt: &R,
+    calls: &Calls,
+    path: &str,
+) -> Result<u64, FileFault> {
+    let system = Counted {
+        system: rt,
+        calls,
+        oddity: Oddity::Nothing,
+    };
+    sectors(FileDisk::create(&system, rt.alloc(), path, 1))
+}
+
+/// Want of memory, a file without leave to read and write, and one that is not there.
+const REASONS: [(ErrorKind, FileFault); 3] = [
+    (ErrorKind::OutOfMemory, FileFault::Memory),
+    (ErrorKind::PermissionDenied, FileFault::Open),
+    (ErrorKind::NotFound, FileFault::Open),
+];
+
+/// No call of the system is done.
+#[test]
+fn what_is_not_opened_says_why(rt: HostRuntime) {
+    for (kind, fault) in REASONS {
+        let calls = Calls::new(1, kind, true);
+        assert!(rt; create(&rt, &calls, "disk") == Err(fault));
+        assert!(rt; open(&rt, &calls, Oddity::Nothing, "disk") == Err(fault));
+    }
 }

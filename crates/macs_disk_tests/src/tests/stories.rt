@@ -3,7 +3,6 @@
 use super::Call::{Fill, Sync};
 use super::Step::{Crash, Find, Make, Tear};
 use super::{Step, begin};
-use std::test::Fail;
 
 const SYNCED: &[Step] = &[
     Find(1, (0, 0, false)),
@@ -20,8 +19,8 @@ const SYNCED: &[Step] = &[
 ];
 
 #[test]
-fn a_power_loss_keeps_what_was_synced(rt: HostRuntime) -> Result<(), Fail> {
-    begin(&rt, rt.alloc(), 4, SYNCED)
+fn a_power_loss_keeps_what_was_synced(rt: HostRuntime) {
+    begin(&rt, rt.alloc(), 4, SYNCED);
 }
 
 const CHOSEN: &[Step] = &[
@@ -38,8 +37,8 @@ const CHOSEN: &[Step] = &[
 ];
 
 #[test]
-fn a_power_loss_leaves_what_was_chosen(rt: HostRuntime) -> Result<(), Fail> {
-    begin(&rt, rt.alloc(), 4, CHOSEN)
+fn a_power_loss_leaves_what_was_chosen(rt: HostRuntime) {
+    begin(&rt, rt.alloc(), 4, CHOSEN);
 }
 
 const CHOSEN_AGAIN: &[Step] = &[
@@ -65,6 +64,6 @@ const CHOSEN_AGAIN: &[Step] = &[
 
 /// A choice holds over a later write and until a later choice, a sync or a power loss.
 #[test]
-fn a_choice_stands_until_a_sync(rt: HostRuntime) -> Result<(), Fail> {
-    begin(&rt, rt.alloc(), 3, CHOSEN_AGAIN)
+fn a_choice_stands_until_a_sync(rt: HostRuntime) {
+    begin(&rt, rt.alloc(), 3, CHOSEN_AGAIN);
 }
