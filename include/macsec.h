@@ -58,7 +58,7 @@ extern "C" {
     X(MACS_TOO_SMALL, 40, "the disk has fewer than 1,028 sectors")                                   \
     X(MACS_NOT_FORMATTED, 41, "the disk is not formatted: no head gate is open")                     \
     X(MACS_BAD_JOURNAL, 42, "the disk is formatted, but its journal is not valid")                   \
-    X(MACS_FORMAT_ONE, 43, "the journal is of format one: macsecd brings it up to date")             \
+    X(MACS_FORMAT_ONE, 43, "the journal is of format one: macsecd migrates it, if it can")           \
     X(MACS_FORMATTED, 44, "the disk is formatted already: a head gate is open")                      \
     X(MACS_BLOCK, 45, "a block is not 1 to 65,536")                                                  \
     /* its work */                                                                                   \
@@ -224,8 +224,9 @@ uint32_t macs_open_frame(const struct macs_key *key, const struct macs_sci *sci,
  * the journal is compacted, which takes up to 754 device calls more.
  *
  * After MACS_UNSENT_NO_NUMBER and MACS_HELD_BACK make device calls until MACS_RESERVED or MACS_IDLE,
- * and hand the frame in again; give up at MACS_GENERATIONS_SPENT, MACS_DISK or MACS_STOPPED. At the
- * first frame of each association after an opening this is the usual case.
+ * and hand the frame in again. It may wait once more, if another association had its turn; give up at
+ * MACS_GENERATIONS_SPENT, MACS_DISK or MACS_STOPPED. At the first frame of each association after an
+ * opening this is the usual case.
  *
  * After MACS_DISK the endpoint is stopped: frames and commands are answered with MACS_STOPPED. Close
  * it, sync the device, read all sectors, and open it again. If the sync fails, do not open it: many
@@ -279,8 +280,9 @@ struct macs_endpoint {
 
 /* The identity of an endpoint, fixed for good by macs_format. Blocks say how many packet numbers are
  * reserved at a time. A reservation takes two syncs. For each association an opening skips at most a
- * block and a half of transmit numbers, and then refuses at most a receive block of genuine frames as
- * late: no call avoids this, as the planned end of macsecd does. */
+ * block and a half of transmit numbers, and then refuses as late at most a receive block of the
+ * frames after the newest that had verified: no call avoids this, as the planned end of macsecd
+ * does. */
 struct macs_identity {
     struct macs_sci sci; /* the transmit channel's */
     uint32_t tx_block;   /* packet numbers, 1 to 65,536 */
@@ -367,8 +369,8 @@ size_t macs_endpoint_alignment(void);
  * After MACS_OK write sectors 0 to MACS_FORMAT_LAST, or those of them that changed, except
  * MACS_HEAD_GATE; sync; write MACS_HEAD_GATE; and sync. No other sector has changed. A power loss
  * before the last sync leaves a disk that is not formatted, or this journal; after it, this journal.
- * If one of these calls fails, sync, read all sectors and begin again; if that sync fails, do not use
- * the disk.
+ * If one of these calls fails, sync, read all sectors and begin again: MACS_FORMATTED then says that
+ * this journal is there. If that sync fails, do not use the disk.
  *
  * Never format a disk for keys that were used under its SCI before: take new keys, or another SCI. */
 uint32_t macs_format(struct macs_sector *sectors, size_t count,
@@ -404,7 +406,8 @@ uint32_t macs_submit(struct macs_endpoint *e, const struct macs_command *command
  * frames are sent while reserved numbers last. MACS_CLOSED, which changes nothing. */
 uint32_t macs_next_call(struct macs_endpoint *e, struct macs_call *call, struct macs_done *done);
 
-/* Continues after the device call was made. `ok` is 1 if it succeeded, any other value if not: not 0
+/* Continues after the device call was made. Call it once for each MACS_CALL: a second report would be
+ * taken for one of the next device call. `ok` is 1 if it succeeded, any other value if not: not 0
  * for success, as system calls have it. `read` has the octets that a read gave; after a write or a
  * sync they are ignored, but the sector is there. MACS_WORKED, MACS_RESERVED, or MACS_DONE, with a
  * command in `done`. MACS_DISK if the call failed: the endpoint is stopped. MACS_CLOSED or

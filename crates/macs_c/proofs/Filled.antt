@@ -148,5 +148,6 @@ module _ (sectors : ℕ) (old : Image) (identity : Identity) (new : Image) (size
       stands = (size, record { content = first_content identity; found = found; stands = refl });
       format = record { content = first_content identity; found = found; is = refl };
     };
+    journal = found;
     others = is.others;
   }

@@ -16,3 +16,5 @@ mod Exported
 mod GivenFrames
 mod ShownNumbers
 mod ExportedFrames
+mod Reportable
+mod NewDisks

@@ -106,7 +106,8 @@ number_of (code.Unsent fault) = 70 + tx_fault_number fault
 number_of (code.Received given) = verdict_number given
 number_of (code.Refused refusal) = 100 + refusal_number refusal
 
--- for a disk that is not opened: its sectors are only read, so that Disk is a migration that is not made
+-- for a disk that is not opened: its sectors are only read, so that Disk is a migration that is not made. Generations
+-- are spent only in a journal of format one.
 abbrev pub open_answer : JournalFault → Answer
 open_answer journal.TooSmall = code.TooSmall
 open_answer journal.NotFormatted = code.NotFormatted

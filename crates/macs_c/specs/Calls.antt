@@ -58,7 +58,8 @@ OpenAnswer honest sectors None answer (Some new) = (answer ≡ code.Success) × 
 OpenAnswer honest sectors None answer None =
     (fault : JournalFault) × (answer ≡ open_answer fault) × IsRefusedFor sectors fault
 
--- Its first part: the store that was opened from these sectors, moved to a disk with them; or why they are refused.
+-- The first part of an opening: the store that was opened from these sectors, moved to a disk with them; or why they
+-- are refused.
 abbrev pub StoreFrom : Bool → List (List ℕ) → Result (StoreValue ReportedValue) JournalFault → Type 0
 StoreFrom honest sectors (Ok s) = (from : StoreValue ImageValue) × store.Opens image_disk (image_from sectors) from
     × (s ≡ store_on_device from (reported_from sectors honest))
@@ -100,8 +101,8 @@ abbrev pub MayReport : E → Moment → List ℕ → ℕ → Type 0
 MayReport e next read ok = (asked : DeviceCall) → IsNextCall e asked
     → MayBeReported (device_in e) next asked read (reported ok)
 
--- The call that was named was made, and the endpoint continues as a step that had made it itself; or none is pending,
--- since the endpoint is stopped or has no work under way.
+-- The device call that the work under way needs was made, and the endpoint continues as a step that had made it itself;
+-- or none is pending, since the endpoint is stopped or has no work under way.
 abbrev pub DidFrom : E → Moment → List ℕ → ℕ → MacsDone → Answer → MacsDone → E → Type 0
 DidFrom old next read ok done answer done' new =
     ((answer ≡ code.NoCall) × ((is_stopped old ≡ true) ⊎ IsIdle old.store) × (new ≡ old) × (done' ≡ done))

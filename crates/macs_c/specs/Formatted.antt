@@ -8,8 +8,8 @@ use Rattle.macs_record.specs.Decoding.{IsSectorOf}
 use Rattle.macs_record.specs.Heads.{IsHeadOf}
 use Rattle.macs_record.specs.Settings.{default_settings}
 use Rattle.macs_journal.specs.Areas.{IsArea, gate, gates, head_body, least_sectors, slot_body}
-use Rattle.macs_journal.specs.Formatting.{FormatWrites, HasOpenHead, first_head}
-use Rattle.macs_journal.specs.Found.{IsGateOpen}
+use Rattle.macs_journal.specs.Formatting.{FormatWrites, HasOpenHead, first_content, first_head}
+use Rattle.macs_journal.specs.Found.{HasJournal, IsGateOpen}
 use Rattle.macs_journal.specs.declared.fault.JournalFault.TheVariants.{NotFormatted}
 use Rattle.macs_store.specs.Found.{StandingIs}
 use Rattle.macs_endpoint.specs.Formatting.{IsFormattedAs}
@@ -34,11 +34,12 @@ pub record IsFilled (old : Image) (identity : Identity) (new : Image) : Type 0 w
   pub shut : (k : ℕ) → 1 ≤ k → k < gates → ¬ IsGateOpen new 0 k
   pub others : (i : ℕ) → (¬ FormatWrites old i) → new i ≡ old i
 
--- A disk without a journal becomes that of a new endpoint with this identity. No sector is touched but those that a
--- format writes to.
+-- A disk without a journal becomes that of a new endpoint with this identity, with the journal of a new disk. No sector
+-- is touched but those that a format writes to.
 pub record Formats (sectors : ℕ) (old : Image) (identity : Identity) (new : Image) : Type 0 where
   pub blank : StandingIs this_edition sectors old (Err NotFormatted)
   pub formatted : IsFormattedAs sectors identity new
+  pub journal : HasJournal new (first_content identity)
   pub others : (i : ℕ) → (¬ FormatWrites old i) → new i ≡ old i
 
 -- the answer: the sectors before and after

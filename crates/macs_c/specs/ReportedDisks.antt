@@ -72,7 +72,7 @@ reported_next it next answer =
 abbrev pub missed : Result (Unit {0}) DeviceFault
 missed = Err (record {})
 
--- A report of a call fits an honest disk: it led from the last moment to this one.
+-- On an honest disk the reported call led from the last moment to this one.
 abbrev pub MayBeReported : ReportedValue → Moment → DeviceCall → List ℕ → Result (Unit {0}) DeviceFault → Type 0
 MayBeReported it next asked read answer = IsHonest (reported_disk it)
     → DoesCall (now (reported_disk it)) (reported_state next) asked read answer

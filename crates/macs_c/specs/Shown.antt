@@ -75,12 +75,12 @@ counts_of e = record {
 
 -- ---- the same where an endpoint may be open
 
--- a transmit key, where an endpoint may be open: with none this is refused, and nothing is stored
+-- a transmit association, where an endpoint may be open: with none this is refused, and nothing is stored
 abbrev pub TxAnswer : Option Slot → ℕ → MacsTx → Answer → MacsTx → Type 0
 TxAnswer None an old answer new = (answer ≡ code.Closed) × (new ≡ old)
 TxAnswer (Some slot) an old answer new = TxFrom slot.endpoint an old answer new
 
--- a receive key, likewise
+-- a receive association, likewise
 abbrev pub RxAnswer : Option Slot → List ℕ → ℕ → MacsRx → Answer → MacsRx → Type 0
 RxAnswer None sci an old answer new = (answer ≡ code.Closed) × (new ≡ old)
 RxAnswer (Some slot) sci an old answer new = RxFrom slot.endpoint sci an old answer new

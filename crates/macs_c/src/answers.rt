@@ -186,7 +186,8 @@ pub(crate) fn number_of(answer: Answer) -> u32
 }
 
 /// The answer for a disk that is not opened. Since it is only read, a device call of an opening
-/// fails only to migrate a journal of format one.
+/// fails only to migrate a journal of format one, and only such a journal is in its last
+/// generation.
 pub(crate) fn open_answer(fault: JournalFault) -> Answer
     ensures { result ≡ open_answer fault }
 {

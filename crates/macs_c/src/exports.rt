@@ -13,11 +13,14 @@ use crate::reading::read_for_c;
 use crate::refusals::{Refusal, code_of};
 use crate::sealing::seal_into;
 
-/// Stores a key of 16 or 32 octets. Returns 0, or 1 for any other length: then `key` is unchanged.
+/// Stores a key of 16 or 32 octets, and leaves the other octets of `key` as they were. Returns 0,
+/// or 1 for any other length: then `key` is unchanged.
 #[unsafe(no_mangle)]
 pub extern "C" fn macs_key_new(octets: &[u8], key: &mut MacsKey) -> u32
     ensures kept { result ≡ 0 → IsKeyLength (length octets.now) × (is_key key.new ≡ true)
         × (key_octets key.new ≡ octets.now) }
+    ensures rest { drop (length octets.now) key.new.octets
+        ≡ drop (length octets.now) key.old.octets }
     ensures refused { result ≢ 0
         → (result ≡ 1) × (¬ IsKeyLength (length octets.now)) × (key.new ≡ key.old) }
 {

@@ -1,6 +1,6 @@
 //! Keys as a C program stores them.
 
-ghost use Rattle.std.specs.Prelude.{◌≡◌, ◌↔◌, ◌≤◌, IfSome, IsSome, IsTrue, length, true};
+ghost use Rattle.std.specs.Prelude.{◌≡◌, ◌↔◌, ◌≤◌, IfSome, IsSome, IsTrue, drop, length, true};
 ghost use Rattle.std.specs.Bool.{OnFalse, OnTrue};
 ghost use Rattle.macs_aes.specs.Keys.{octets_of_key};
 ghost use Rattle.macs_c.specs.Keys.{IsKeyLength, is_key, key_octets};
@@ -33,6 +33,8 @@ pub(crate) fn key_of(key: &MacsKey) -> Option<Key>
 pub(crate) fn keep(octets: &[u8], key: &mut MacsKey) -> bool
     ensures exactly { IsTrue result ↔ IsKeyLength (length octets.now) }
     ensures kept { OnTrue result ((is_key key.new ≡ true) × (key_octets key.new ≡ octets.now)) }
+    ensures rest { drop (length octets.now) key.new.octets
+        ≡ drop (length octets.now) key.old.octets }
     ensures same { OnFalse result (key.new ≡ key.old) }
 {
     let length = octets.len();

@@ -18,6 +18,7 @@ mod handle;
 mod history;
 mod image;
 mod keys;
+pub mod laws;
 mod opening;
 mod reader_exports;
 mod readers;

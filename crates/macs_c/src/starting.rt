@@ -13,8 +13,9 @@ use macs_journal::JournalFault;
 use macs_store::Store;
 
 /// Reads what an endpoint keeps from all sectors of its disk, and moves it to a disk with these
-/// sectors, whose calls somebody else makes. Fails with `TooSmall`, `NotFormatted` or `BadJournal`;
-/// and with `Disk` or `GenerationsSpent` at a journal of format one, since nothing can be written.
+/// sectors, whose calls a C program makes. Fails with `TooSmall`, `NotFormatted` or `BadJournal`;
+/// at a journal of format one with `Disk`, since nothing is written, or with `GenerationsSpent` if
+/// its generation is 2^64 - 1.
 #[inline(never)]
 pub(crate) fn store_of(sectors: &[[u8; 512]]) -> Result<Store<ReportedDisk>, JournalFault>
     ghost honest: { Bool }
