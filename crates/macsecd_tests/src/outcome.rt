@@ -22,32 +22,45 @@ pub enum Outcome {
 }
 
 impl Outcome {
-    /// The status, standard output and standard error.
-    fn parts(self) -> (u8, &'static str, &'static str) {
+    fn status(self) -> u8 {
         match self {
-            Outcome::Done(out) => (0, out, ""),
-            Outcome::Refused(out) => (3, out, ""),
-            Outcome::LinkRefused(err) => (3, "", err),
-            Outcome::Usage(err) => (2, "", err),
-            Outcome::Disk(err) => (4, "", err),
-            Outcome::DiskBehind(out, err) => (4, out, err),
-            Outcome::Fault(err) => (5, "", err),
-            Outcome::FaultBehind(out, err) => (5, out, err),
+            Outcome::Done(_) => 0,
+            Outcome::Usage(_) => 2,
+            Outcome::Refused(_) | Outcome::LinkRefused(_) => 3,
+            Outcome::Disk(_) | Outcome::DiskBehind(..) => 4,
+            Outcome::Fault(_) | Outcome::FaultBehind(..) => 5,
+        }
+    }
+
+    /// What is printed.
+    fn out(self) -> &'static str {
+        match self {
+            Outcome::Done(out) | Outcome::Refused(out) => out,
+            Outcome::DiskBehind(out, _) | Outcome::FaultBehind(out, _) => out,
+            _ => "",
+        }
+    }
+
+    /// What is on standard error.
+    fn err(self) -> &'static str {
+        match self {
+            Outcome::LinkRefused(err) | Outcome::Usage(err) => err,
+            Outcome::Disk(err) | Outcome::DiskBehind(_, err) => err,
+            Outcome::Fault(err) | Outcome::FaultBehind(_, err) => err,
+            _ => "",
         }
     }
 
     /// The first part of an answer that is not that of the outcome: no text where there is none.
     pub(crate) fn differing_part(self, status: u8, out: &[u8], err: &[u8]) -> &'static str {
-        let (wanted, printed, complained) = self.parts();
-        if out != printed.as_bytes() {
-            return "standard output";
+        if out != self.out().as_bytes() {
+            "standard output"
+        } else if err != self.err().as_bytes() {
+            "standard error"
+        } else if status != self.status() {
+            "status"
+        } else {
+            ""
         }
-        if err != complained.as_bytes() {
-            return "standard error";
-        }
-        if status != wanted {
-            return "status";
-        }
-        ""
     }
 }

@@ -8,7 +8,6 @@ use super::stories::Step::{
 };
 use super::stories::{Step, play};
 use crate::Outcome;
-use std::test::Fail;
 
 const FORMATTED: Outcome = Outcome::Done("formatted\n");
 
@@ -79,8 +78,8 @@ const APPLIED: &[Step] = &[
 ];
 
 #[test]
-fn commands_are_kept_or_refused(rt: HostRuntime) -> Result<(), Fail> {
-    play(&rt, rt.alloc(), "story-apply", APPLIED)
+fn commands_are_kept_or_refused(rt: HostRuntime) {
+    play(&rt, rt.alloc(), "story-apply", APPLIED);
 }
 
 /// Keys of 256 bits on either side, and then a key of 128 bits.
@@ -142,8 +141,8 @@ const LONG_APPLIED: &[Step] = &[
 ];
 
 #[test]
-fn long_keys_are_applied(rt: HostRuntime) -> Result<(), Fail> {
-    play(&rt, rt.alloc(), "story-long", LONG_APPLIED)
+fn long_keys_are_applied(rt: HostRuntime) {
+    play(&rt, rt.alloc(), "story-long", LONG_APPLIED);
 }
 
 /// Both sides, with each setting changed.
@@ -233,8 +232,8 @@ const BOTH: &[Step] = &[
 ];
 
 #[test]
-fn both_sides_are_shown(rt: HostRuntime) -> Result<(), Fail> {
-    play(&rt, rt.alloc(), "story-both", BOTH)
+fn both_sides_are_shown(rt: HostRuntime) {
+    play(&rt, rt.alloc(), "story-both", BOTH);
 }
 
 const FIRST_APPLIED: Outcome = Outcome::Done(
@@ -273,8 +272,8 @@ const FLUSHED: &[Step] = &[
 ];
 
 #[test]
-fn a_line_that_is_not_flushed_ends_the_run(rt: HostRuntime) -> Result<(), Fail> {
-    play(&rt, rt.alloc(), "story-flushed", FLUSHED)
+fn a_line_that_is_not_flushed_ends_the_run(rt: HostRuntime) {
+    play(&rt, rt.alloc(), "story-flushed", FLUSHED);
 }
 
 /// Each line is written after its command, and the first that cannot be ends the run.
@@ -298,8 +297,8 @@ const LINES: &[Step] = &[
 ];
 
 #[test]
-fn a_line_that_is_not_taken_ends_the_run(rt: HostRuntime) -> Result<(), Fail> {
-    play(&rt, rt.alloc(), "story-lines", LINES)
+fn a_line_that_is_not_taken_ends_the_run(rt: HostRuntime) {
+    play(&rt, rt.alloc(), "story-lines", LINES);
 }
 
 const COMMANDS_FAULT: Outcome = Outcome::Fault("macsecd: commands\n");
@@ -350,8 +349,8 @@ const FILES: &[Step] = &[
 ];
 
 #[test]
-fn a_wrong_command_file_is_commands(rt: HostRuntime) -> Result<(), Fail> {
-    play(&rt, rt.alloc(), "story-files", FILES)
+fn a_wrong_command_file_is_commands(rt: HostRuntime) {
+    play(&rt, rt.alloc(), "story-files", FILES);
 }
 
 /// A key for the transmit side.
@@ -452,8 +451,8 @@ const LOST: &[Step] = &[
 ];
 
 #[test]
-fn no_key_of_a_lost_disk_is_applied(rt: HostRuntime) -> Result<(), Fail> {
-    play(&rt, rt.alloc(), "story-spent", LOST)
+fn no_key_of_a_lost_disk_is_applied(rt: HostRuntime) {
+    play(&rt, rt.alloc(), "story-spent", LOST);
 }
 
 const OTHER_FORMAT: &[&str] = &["format", "story-third/disk", "0200000000020001", "4", "4"];
@@ -481,8 +480,8 @@ const THIRD: &[Step] = &[
 ];
 
 #[test]
-fn a_key_of_a_lost_disk_is_told_by_its_command(rt: HostRuntime) -> Result<(), Fail> {
-    play(&rt, rt.alloc(), "story-third", THIRD)
+fn a_key_of_a_lost_disk_is_told_by_its_command(rt: HostRuntime) {
+    play(&rt, rt.alloc(), "story-third", THIRD);
 }
 
 const NOT_OWN_FORMAT: &[&str] = &["format", "story-not-own/own", "0200000000020001", "4", "4"];
@@ -519,8 +518,8 @@ const NOT_OWN: &[Step] = &[
 ];
 
 #[test]
-fn the_keys_of_the_own_end_are_noted(rt: HostRuntime) -> Result<(), Fail> {
-    play(&rt, rt.alloc(), "story-not-own", NOT_OWN)
+fn the_keys_of_the_own_end_are_noted(rt: HostRuntime) {
+    play(&rt, rt.alloc(), "story-not-own", NOT_OWN);
 }
 
 const UNSYNCED_DISK: &str = "story-unsynced/disk";
@@ -563,8 +562,8 @@ const UNSYNCED: &[Step] = &[
 ];
 
 #[test]
-fn the_list_of_keys_is_synced_first(rt: HostRuntime) -> Result<(), Fail> {
-    play(&rt, rt.alloc(), "story-unsynced", UNSYNCED)
+fn the_list_of_keys_is_synced_first(rt: HostRuntime) {
+    play(&rt, rt.alloc(), "story-unsynced", UNSYNCED);
 }
 
 /// A folder has the name of the list of keys.
@@ -604,6 +603,6 @@ const UNLISTED: &[Step] = &[
 ];
 
 #[test]
-fn no_key_is_applied_that_is_not_noted(rt: HostRuntime) -> Result<(), Fail> {
-    play(&rt, rt.alloc(), "story-unlisted", UNLISTED)
+fn no_key_is_applied_that_is_not_noted(rt: HostRuntime) {
+    play(&rt, rt.alloc(), "story-unlisted", UNLISTED);
 }

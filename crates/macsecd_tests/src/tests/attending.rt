@@ -8,7 +8,6 @@ use super::stories::Told::{Counters, Text};
 use super::stories::{Attended, Client, Step, Told, play};
 use crate::Outcome;
 use crate::Outcome::{Disk, Done};
-use std::test::Fail;
 
 /// The line of a relay to which no frame came.
 const NOTHING: Outcome = Done("sent 0 delivered 0 dropped 0 faults 0\n");
@@ -110,7 +109,7 @@ const TWO: &[Step] = &[
         &["format", "story-two/disk", "12153524c0895e81", "4", "4"],
         Done("formatted\n"),
     ),
-    Attend(Attended {
+    Attend(&Attended {
         disk: "story-two/disk",
         broken: Nothing,
         pace: ["--turns", "2000"],
@@ -135,8 +134,8 @@ const TWO: &[Step] = &[
 ];
 
 #[test]
-fn two_clients_are_answered_side_by_side(rt: HostRuntime) -> Result<(), Fail> {
-    play(&rt, rt.alloc(), "story-two", TWO)
+fn two_clients_are_answered_side_by_side(rt: HostRuntime) {
+    play(&rt, rt.alloc(), "story-two", TWO);
 }
 
 /// Empties the disk file, which a format needs.
@@ -181,35 +180,35 @@ spent tx 0 rx 0
 const FAILS: &[Step] = &[
     EMPTY,
     FORMAT,
-    Attend(Attended {
+    Attend(&Attended {
         broken: Write(34),
         ..WAITED
     }),
     Run(SHOW, Done(NOT_FOUND)),
     EMPTY,
     FORMAT,
-    Attend(Attended {
+    Attend(&Attended {
         broken: Sync(2),
         ..WAITED
     }),
     Run(SHOW, Done(NOT_FOUND)),
     EMPTY,
     FORMAT,
-    Attend(Attended {
+    Attend(&Attended {
         broken: Write(35),
         ..WAITED
     }),
     Run(SHOW, Done(NOT_FOUND)),
     EMPTY,
     FORMAT,
-    Attend(Attended {
+    Attend(&Attended {
         broken: Sync(3),
         ..WAITED
     }),
     Run(SHOW, Done(FOUND)),
     EMPTY,
     FORMAT,
-    Attend(Attended {
+    Attend(&Attended {
         broken: Write(36),
         clients: &[Client {
             lines: "set-replay on 9\n",
@@ -223,8 +222,8 @@ const FAILS: &[Step] = &[
 ];
 
 #[test]
-fn no_client_is_told_of_a_command_that_is_lost(rt: HostRuntime) -> Result<(), Fail> {
-    play(&rt, rt.alloc(), "story-waits", FAILS)
+fn no_client_is_told_of_a_command_that_is_lost(rt: HostRuntime) {
+    play(&rt, rt.alloc(), "story-waits", FAILS);
 }
 
 /// The moments of a run: both wires are bound before the socket has its name; the parent is told
@@ -252,7 +251,7 @@ const PARENT: &[Step] = &[
         &["format", "story-parent/disk", "12153524c0895e81", "4", "4"],
         Done("formatted\n"),
     ),
-    Attend(Attended {
+    Attend(&Attended {
         disk: "story-parent/disk",
         broken: Nothing,
         pace: ["--turns", "5"],
@@ -265,7 +264,7 @@ const PARENT: &[Step] = &[
     IsMissing("story-parent/control"),
     // The same of a relay whose disk fails: its first turn is quiet, in the second it takes a
     // command.
-    Attend(Attended {
+    Attend(&Attended {
         disk: "story-parent/disk",
         broken: Write(34),
         pace: ["--turns", "200"],
@@ -283,8 +282,8 @@ const PARENT: &[Step] = &[
 ];
 
 #[test]
-fn a_parent_is_told_when_a_relay_begins_and_ends(rt: HostRuntime) -> Result<(), Fail> {
-    play(&rt, rt.alloc(), "story-parent", PARENT)
+fn a_parent_is_told_when_a_relay_begins_and_ends(rt: HostRuntime) {
+    play(&rt, rt.alloc(), "story-parent", PARENT);
 }
 
 /// The commands of an endpoint that sends, whose first frame would have the number 5: with blocks of
@@ -355,19 +354,19 @@ const RESTS: &[Step] = &[
         &["apply", "story-rests/disk", "story-rests/sender.toml"],
         Done("1 ok\n2 ok\n"),
     ),
-    Attend(STOPPED),
+    Attend(&STOPPED),
     Run(&["show", "story-rests/disk"], Done(NOT_SKIPPED)),
-    Attend(Attended {
+    Attend(&Attended {
         broken: Write(38),
         outcome: Disk("macsecd: disk\n"),
         ..STOPPED
     }),
     Run(&["show", "story-rests/disk"], Done(SKIPPED)),
-    Attend(STOPPED),
+    Attend(&STOPPED),
     Run(&["show", "story-rests/disk"], Done(SKIPPED)),
 ];
 
 #[test]
-fn a_planned_end_skips_no_packet_number(rt: HostRuntime) -> Result<(), Fail> {
-    play(&rt, rt.alloc(), "story-rests", RESTS)
+fn a_planned_end_skips_no_packet_number(rt: HostRuntime) {
+    play(&rt, rt.alloc(), "story-rests", RESTS);
 }

@@ -13,7 +13,6 @@ use std::net::Net;
 use std::os::fd::{AsFd, OwnedFd};
 use std::os::unix::net::{SocketAddr, UnixStream};
 use std::rt::Files;
-use std::test::Fail;
 use std::time::Duration;
 
 /// A client of a control socket, its connection, once it has one, and all that was said to it.
@@ -236,13 +235,13 @@ impl Beside {
         alloc: Global,
         lines: &'static str,
         later: &'static str,
-    ) -> Result<(), Fail> {
+    ) -> Result<(), AllocError> {
         self.guests.push(Guest::new(alloc, lines, later))?;
         Ok(())
     }
 
     /// Adds a client of a keeper.
-    pub fn admit(&mut self, visitor: Visitor) -> Result<(), Fail> {
+    pub fn admit(&mut self, visitor: Visitor) -> Result<(), AllocError> {
         self.visitors.push(visitor)?;
         Ok(())
     }
@@ -253,7 +252,7 @@ impl Beside {
         files: &impl Files,
         alloc: Global,
         name: &'static str,
-    ) -> Result<(), Fail> {
+    ) -> io::Result<()> {
         self.parent = Some(Parent::new(files, alloc, name)?);
         Ok(())
     }
@@ -369,9 +368,9 @@ impl Beside {
     }
 
     /// All that was said to the client with this number.
-    pub fn told(&self, alloc: Global, client: usize) -> Result<String, Fail> {
+    pub fn told(&self, alloc: Global, client: usize) -> Result<String, AllocError> {
         match self.guests.get(client) {
-            Some(guest) => Ok(guest.told(alloc)?),
+            Some(guest) => guest.told(alloc),
             None => Ok(String::new(alloc)),
         }
     }

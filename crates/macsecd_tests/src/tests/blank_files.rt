@@ -7,7 +7,6 @@ use super::stories::Step::{
 use super::stories::{Step, play};
 use crate::Outcome;
 use std::io::ErrorKind;
-use std::test::Fail;
 
 const FORMATTED: Outcome = Outcome::Done("formatted\n");
 
@@ -87,8 +86,8 @@ const OTHERS: &[Step] = &[
 ];
 
 #[test]
-fn a_file_that_is_not_blank_stays(rt: HostRuntime) -> Result<(), Fail> {
-    play(&rt, rt.alloc(), "story-blank", OTHERS)
+fn a_file_that_is_not_blank_stays(rt: HostRuntime) {
+    play(&rt, rt.alloc(), "story-blank", OTHERS);
 }
 
 const CUT_FILE: &str = "story-cut/file";
@@ -122,8 +121,8 @@ const CUT: &[Step] = &[
 ];
 
 #[test]
-fn a_format_that_was_cut_short_is_repeated(rt: HostRuntime) -> Result<(), Fail> {
-    play(&rt, rt.alloc(), "story-cut", CUT)
+fn a_format_that_was_cut_short_is_repeated(rt: HostRuntime) {
+    play(&rt, rt.alloc(), "story-cut", CUT);
 }
 
 const NEW_FILE: &str = "story-folder/file";
@@ -167,6 +166,6 @@ const FOLDERS: &[Step] = &[
 ];
 
 #[test]
-fn the_folder_is_synced(rt: HostRuntime) -> Result<(), Fail> {
-    play(&rt, rt.alloc(), "story-folder", FOLDERS)
+fn the_folder_is_synced(rt: HostRuntime) {
+    play(&rt, rt.alloc(), "story-folder", FOLDERS);
 }

@@ -6,7 +6,6 @@ use super::stories::Step::{Closing, Failing, Filled, Hex, Keeping, Mode, Run, Te
 use super::stories::{Step, play};
 use crate::Outcome;
 use std::io::ErrorKind;
-use std::test::Fail;
 
 const CHECKED: &[Step] = &[
     Text("story-check/two", SENDER),
@@ -67,8 +66,8 @@ const CHECKED: &[Step] = &[
 ];
 
 #[test]
-fn commands_are_counted(rt: HostRuntime) -> Result<(), Fail> {
-    play(&rt, rt.alloc(), "story-check", CHECKED)
+fn commands_are_counted(rt: HostRuntime) {
+    play(&rt, rt.alloc(), "story-check", CHECKED);
 }
 
 const OWN: &str = "story-ends/own.toml";
@@ -145,8 +144,8 @@ spent tx 0 rx 0
 ];
 
 #[test]
-fn a_file_is_for_its_end(rt: HostRuntime) -> Result<(), Fail> {
-    play(&rt, rt.alloc(), "story-ends", ENDS)
+fn a_file_is_for_its_end(rt: HostRuntime) {
+    play(&rt, rt.alloc(), "story-ends", ENDS);
 }
 
 const SEEN: &str = "story-modes/seen.toml";
@@ -183,6 +182,6 @@ const MODES: &[Step] = &[
 ];
 
 #[test]
-fn a_mode_is_printed(rt: HostRuntime) -> Result<(), Fail> {
-    play(&rt, rt.alloc(), "story-modes", MODES)
+fn a_mode_is_printed(rt: HostRuntime) {
+    play(&rt, rt.alloc(), "story-modes", MODES);
 }

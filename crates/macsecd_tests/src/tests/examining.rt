@@ -13,7 +13,6 @@ use std::io::ErrorKind::{
     FilesystemLoop, IsADirectory, NotADirectory, NotFound, Other, OutOfMemory, PermissionDenied,
     TooManyLinks, WouldBlock,
 };
-use std::test::Fail;
 
 const FORMATTED: Outcome = Outcome::Done("formatted\n");
 
@@ -159,8 +158,8 @@ const EXAMINED: &[Step] = &[
 ];
 
 #[test]
-fn a_journal_is_examined(rt: HostRuntime) -> Result<(), Fail> {
-    play(&rt, rt.alloc(), "story-examine", EXAMINED)
+fn a_journal_is_examined(rt: HostRuntime) {
+    play(&rt, rt.alloc(), "story-examine", EXAMINED);
 }
 
 const OLDER: &str = "story-examine-older/disk";
@@ -270,8 +269,8 @@ const EXAMINED_OLDER: &[Step] = &[
 ];
 
 #[test]
-fn an_older_file_is_examined(rt: HostRuntime) -> Result<(), Fail> {
-    play(&rt, rt.alloc(), "story-examine-older", EXAMINED_OLDER)
+fn an_older_file_is_examined(rt: HostRuntime) {
+    play(&rt, rt.alloc(), "story-examine-older", EXAMINED_OLDER);
 }
 
 const FAULTY: &str = "story-examine-faults/disk";
@@ -354,8 +353,8 @@ const REASON: &str = "story-reasons/disk";
 const REASON_WORDS: &[&str] = &["examine", REASON];
 
 #[test]
-fn a_disk_that_is_not_opened_says_why(rt: HostRuntime) -> Result<(), Fail> {
-    play(&rt, rt.alloc(), "story-reasons", REASONS)
+fn a_disk_that_is_not_opened_says_why(rt: HostRuntime) {
+    play(&rt, rt.alloc(), "story-reasons", REASONS);
 }
 
 /// What standard output goes to.
@@ -412,8 +411,8 @@ const FAULTS: &[Step] = &[
 ];
 
 #[test]
-fn each_fault_of_an_examined_disk_is_told(rt: HostRuntime) -> Result<(), Fail> {
-    play(&rt, rt.alloc(), "story-examine-faults", FAULTS)
+fn each_fault_of_an_examined_disk_is_told(rt: HostRuntime) {
+    play(&rt, rt.alloc(), "story-examine-faults", FAULTS);
 }
 
 const SPOILED: &str = "story-examine-spoiled/disk";
@@ -452,8 +451,8 @@ const SPOILED_SECTORS: &[Step] = &[
 ];
 
 #[test]
-fn the_first_sector_at_fault_is_told(rt: HostRuntime) -> Result<(), Fail> {
-    play(&rt, rt.alloc(), "story-examine-spoiled", SPOILED_SECTORS)
+fn the_first_sector_at_fault_is_told(rt: HostRuntime) {
+    play(&rt, rt.alloc(), "story-examine-spoiled", SPOILED_SECTORS);
 }
 
 const LAST: &str = "story-examine-last/disk";
@@ -472,6 +471,6 @@ const LAST_GENERATION: &[Step] = &[
 ];
 
 #[test]
-fn an_older_file_in_its_last_generation_is_not_examined(rt: HostRuntime) -> Result<(), Fail> {
-    play(&rt, rt.alloc(), "story-examine-last", LAST_GENERATION)
+fn an_older_file_in_its_last_generation_is_not_examined(rt: HostRuntime) {
+    play(&rt, rt.alloc(), "story-examine-last", LAST_GENERATION);
 }

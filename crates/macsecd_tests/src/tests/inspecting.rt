@@ -7,7 +7,6 @@ use super::stories::Step::{Claimed, Closing, Failing, Hex, Keeping, Run};
 use super::stories::{Step, play};
 use crate::Outcome;
 use std::io::ErrorKind;
-use std::test::Fail;
 
 /// Frames of a channel that is named by its SCI, as that of an end station, and not at all; one
 /// without a SecTAG, one of packet number 0, one with SCB set, one for the key agreement entity,
@@ -55,8 +54,8 @@ const INSPECTED: &[Step] = &[
 ];
 
 #[test]
-fn frames_are_inspected(rt: HostRuntime) -> Result<(), Fail> {
-    play(&rt, rt.alloc(), "story-inspect", INSPECTED)
+fn frames_are_inspected(rt: HostRuntime) {
+    play(&rt, rt.alloc(), "story-inspect", INSPECTED);
 }
 
 /// A capture of one octet order, up to its frames, and where a record begins.
@@ -145,6 +144,6 @@ const REASONS: &[Step] = &[
 ];
 
 #[test]
-fn a_capture_that_is_not_read_says_why(rt: HostRuntime) -> Result<(), Fail> {
-    play(&rt, rt.alloc(), "story-capture", REASONS)
+fn a_capture_that_is_not_read_says_why(rt: HostRuntime) {
+    play(&rt, rt.alloc(), "story-capture", REASONS);
 }

@@ -16,7 +16,6 @@ use std::os::fd::{AsRawFd, OwnedFd};
 use std::os::unix::net::{SocketAddr, UnixStream};
 use std::process::Abort;
 use std::rt::Files;
-use std::test::Fail;
 use std::time::Duration;
 
 /// How many octets are asked for the answers that wait: those to the calls of an opening, and more.
@@ -82,7 +81,7 @@ impl<D: SectorDisk> SectorDisk for Answering<'_, D> {
 }
 
 /// Two sockets, each the other's peer. At the second one many answers may wait.
-fn joined(net: &impl Net) -> Result<(UdpSocket, UdpSocket), Fail> {
+fn joined(net: &impl Net) -> io::Result<(UdpSocket, UdpSocket)> {
     let first = UdpSocket::bind(net, at(1))?;
     let second = UdpSocket::bind(net, at(1))?;
     first.connect(second.local_addr()?)?;
@@ -92,7 +91,7 @@ fn joined(net: &impl Net) -> Result<(UdpSocket, UdpSocket), Fail> {
 }
 
 /// Sends what a keeper of this disk sends to a client that opens its endpoint.
-fn open(rt: &impl Abort, disk: FileDisk<File>, socket: &UdpSocket) -> Result<(), Fail> {
+fn open(rt: &impl Abort, disk: FileDisk<File>, socket: &UdpSocket) -> io::Result<()> {
     let greeting = Greeting {
         sectors: disk.sectors(),
     };
@@ -104,7 +103,7 @@ fn open(rt: &impl Abort, disk: FileDisk<File>, socket: &UdpSocket) -> Result<(),
 }
 
 /// Sends the answer to a write or a sync, in parts.
-fn send_done(socket: &UdpSocket) -> Result<(), Fail> {
+fn send_done(socket: &UdpSocket) -> io::Result<()> {
     for part in CallAnswer::Done.octets().chunks(PART) {
         socket.send(part)?;
     }
@@ -112,7 +111,7 @@ fn send_done(socket: &UdpSocket) -> Result<(), Fail> {
 }
 
 /// Sends the answers to so many writes and syncs, and then the end or nothing.
-fn answer(socket: &UdpSocket, answered: u32, is_over: bool) -> Result<(), Fail> {
+fn answer(socket: &UdpSocket, answered: u32, is_over: bool) -> io::Result<()> {
     for _ in 0..answered {
         send_done(socket)?;
     }
@@ -143,7 +142,7 @@ impl Keeper {
         name: &'static str,
         answered: u32,
         is_over: bool,
-    ) -> Result<Keeper, Fail> {
+    ) -> io::Result<Keeper> {
         let (own, other) = joined(rt)?;
         let opened = open_disk(rt, alloc, disk).ok().expect(rt, "a disk");
         open(rt, opened, &own)?;

@@ -43,20 +43,20 @@ const READ: Kept = Kept {
 /// What the next keeper reads is what was written.
 const KEPT: &[Step] = &[
     Zeros("story-keeps/disk", 1_024),
-    Keep(READ),
-    Keep(Kept {
+    Keep(&READ),
+    Keep(&Kept {
         requests: &[(1, 0, 0), (2, 1, 97), (1, 1, 0), (3, 0, 0)],
         answers: &[(1, 0), (2, 0), (1, 97), (2, 0)],
         parent: "story-keeps/second",
         ..READ
     }),
-    Keep(Kept {
+    Keep(&Kept {
         answers: &[(1, 97)],
         parent: "story-keeps/third",
         ..READ
     }),
     // Nothing is asked.
-    Keep(Kept {
+    Keep(&Kept {
         requests: &[],
         answers: &[],
         parent: "story-keeps/fourth",
@@ -66,15 +66,15 @@ const KEPT: &[Step] = &[
 ];
 
 #[test]
-fn one_client_is_served(rt: HostRuntime) -> Result<(), Fail> {
-    play(&rt, rt.alloc(), "story-keeps", KEPT)
+fn one_client_is_served(rt: HostRuntime) {
+    play(&rt, rt.alloc(), "story-keeps", KEPT);
 }
 
 /// What is no request, and one for a sector that is not there, end the keeper: no later call is
 /// made.
 const STRANGE: &[Step] = &[
     Zeros("story-strange/disk", 1_024),
-    Keep(Kept {
+    Keep(&Kept {
         disk: "story-strange/disk",
         socket: "story-strange/keeper",
         requests: &[(1, 0, 0), (1, 0, 1), (2, 1, 97)],
@@ -83,7 +83,7 @@ const STRANGE: &[Step] = &[
         outcome: Fault("macsecd: control\n"),
         ..READ
     }),
-    Keep(Kept {
+    Keep(&Kept {
         disk: "story-strange/disk",
         socket: "story-strange/keeper",
         requests: &[(3, 0, 0), (1, 2, 0), (2, 1, 97)],
@@ -93,7 +93,7 @@ const STRANGE: &[Step] = &[
         outcome: Fault("macsecd: control\n"),
         ..READ
     }),
-    Keep(Kept {
+    Keep(&Kept {
         disk: "story-strange/disk",
         socket: "story-strange/keeper",
         parent: "story-strange/third",
@@ -102,15 +102,15 @@ const STRANGE: &[Step] = &[
 ];
 
 #[test]
-fn other_requests_end_a_keeper(rt: HostRuntime) -> Result<(), Fail> {
-    play(&rt, rt.alloc(), "story-strange", STRANGE)
+fn other_requests_end_a_keeper(rt: HostRuntime) {
+    play(&rt, rt.alloc(), "story-strange", STRANGE);
 }
 
 /// A call that fails is answered, and so is each later one: the client decides. An opening syncs
 /// once.
 const FAILING: &[Step] = &[
     Zeros("story-faults/disk", 1_024),
-    Keep(Kept {
+    Keep(&Kept {
         disk: "story-faults/disk",
         broken: Broken::Sync(2),
         socket: "story-faults/keeper",
@@ -122,14 +122,14 @@ const FAILING: &[Step] = &[
 ];
 
 #[test]
-fn a_call_that_fails_ends_no_keeper(rt: HostRuntime) -> Result<(), Fail> {
-    play(&rt, rt.alloc(), "story-faults", FAILING)
+fn a_call_that_fails_ends_no_keeper(rt: HostRuntime) {
+    play(&rt, rt.alloc(), "story-faults", FAILING);
 }
 
 /// A keeper to which nobody comes: its listener waits for 0.3 s.
 const NOBODY: &[Step] = &[
     Zeros("story-nobody/disk", 1_024),
-    Keep(Kept {
+    Keep(&Kept {
         disk: "story-nobody/disk",
         socket: "story-nobody/keeper",
         clients: 0,
@@ -143,7 +143,7 @@ const NOBODY: &[Step] = &[
 #[test]
 fn a_keeper_waits_for_a_client(rt: HostRuntime) -> Result<(), Fail> {
     let begun = Instant::now(&rt)?;
-    play(&rt, rt.alloc(), "story-nobody", NOBODY)?;
+    play(&rt, rt.alloc(), "story-nobody", NOBODY);
     assert!(rt; begun.elapsed(&rt)? >= Duration::from_millis(300));
     Ok(())
 }
@@ -167,6 +167,6 @@ const REFUSED: &[Step] = &[
 ];
 
 #[test]
-fn names_are_refused(rt: HostRuntime) -> Result<(), Fail> {
-    play(&rt, rt.alloc(), "story-names", REFUSED)
+fn names_are_refused(rt: HostRuntime) {
+    play(&rt, rt.alloc(), "story-names", REFUSED);
 }

@@ -6,7 +6,6 @@ use super::stories::Step::{RelayKept, Run, Text};
 use super::stories::{Client, Frames, KeptRelay, Step, Told, play};
 use super::wires::FRAMES;
 use crate::Outcome::{Disk, Done, Fault};
-use std::test::Fail;
 
 const DISK: &str = "story-kept/disk";
 
@@ -107,12 +106,12 @@ const RELAYS: &[Step] = &[
         &["apply", DISK, "story-kept/right.toml"],
         Done("1 ok\n2 ok\n3 ok\n4 ok\n"),
     ),
-    RelayKept(RELAY),
-    RelayKept(WOKEN),
-    RelayKept(WOKEN_BESIDE),
-    RelayKept(PAUSES),
-    RelayKept(PAUSES_BESIDE),
-    RelayKept(ENDED),
+    RelayKept(&RELAY),
+    RelayKept(&WOKEN),
+    RelayKept(&WOKEN_BESIDE),
+    RelayKept(&PAUSES),
+    RelayKept(&PAUSES_BESIDE),
+    RelayKept(&ENDED),
     Run(
         &[
             "relay",
@@ -144,6 +143,6 @@ const RELAYS: &[Step] = &[
 ];
 
 #[test]
-fn a_relay_has_the_disk_of_its_keeper(rt: HostRuntime) -> Result<(), Fail> {
-    play(&rt, rt.alloc(), "story-kept", RELAYS)
+fn a_relay_has_the_disk_of_its_keeper(rt: HostRuntime) {
+    play(&rt, rt.alloc(), "story-kept", RELAYS);
 }

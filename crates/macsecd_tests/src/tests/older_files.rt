@@ -4,7 +4,6 @@ use super::stand_in::Broken::{Sync, Write};
 use super::stories::Step::{Failing, Keeping, Patch, Run, Text, Zeros};
 use super::stories::{Step, play};
 use crate::Outcome;
-use std::test::Fail;
 
 pub const HEAD: &str =
     "4d534543484541440000000100000000000000010000000112153524c0895e810000000400000004";
@@ -108,8 +107,8 @@ const BEGUN_ANEW: &[Step] = &[
 ];
 
 #[test]
-fn an_older_file_goes_on(rt: HostRuntime) -> Result<(), Fail> {
-    play(&rt, rt.alloc(), "story-older", BEGUN_ANEW)
+fn an_older_file_goes_on(rt: HostRuntime) {
+    play(&rt, rt.alloc(), "story-older", BEGUN_ANEW);
 }
 
 const SPACED: &str = "story-older-spaced/disk";
@@ -132,8 +131,8 @@ const BEGUN_ANEW_SPACED: &[Step] = &[
 ];
 
 #[test]
-fn an_older_file_in_blocks_goes_on(rt: HostRuntime) -> Result<(), Fail> {
-    play(&rt, rt.alloc(), "story-older-spaced", BEGUN_ANEW_SPACED)
+fn an_older_file_in_blocks_goes_on(rt: HostRuntime) {
+    play(&rt, rt.alloc(), "story-older-spaced", BEGUN_ANEW_SPACED);
 }
 
 const LAST: &str = "story-older-last/disk";
@@ -157,6 +156,6 @@ const LAST_GENERATION: &[Step] = &[
 ];
 
 #[test]
-fn an_older_file_in_its_last_generation_is_refused(rt: HostRuntime) -> Result<(), Fail> {
-    play(&rt, rt.alloc(), "story-older-last", LAST_GENERATION)
+fn an_older_file_in_its_last_generation_is_refused(rt: HostRuntime) {
+    play(&rt, rt.alloc(), "story-older-last", LAST_GENERATION);
 }

@@ -6,7 +6,6 @@ use std::cell::Cell;
 use std::io;
 use std::io::ErrorKind;
 use std::net::{Net, SocketAddr, UdpSocket};
-use std::test::Fail;
 
 /// Where the first wire is bound, and where the second one: with any port.
 pub const OWN1: &str = "127.0.0.1:0";
@@ -68,7 +67,7 @@ impl Peers {
         first: Vec<u8>,
         second: Vec<u8>,
         strangers: u32,
-    ) -> Result<Peers, Fail> {
+    ) -> io::Result<Peers> {
         Ok(Peers {
             first: Peer::new(net, first)?,
             second: Peer::new(net, second)?,
@@ -111,7 +110,7 @@ impl Peers {
     }
 
     /// The addresses of the first peer and of the second, as texts.
-    pub fn addresses(&self, alloc: Global) -> Result<(String, String), Fail> {
+    pub fn addresses(&self, alloc: Global) -> io::Result<(String, String)> {
         let first = self.first.socket.local_addr()?;
         let second = self.second.socket.local_addr()?;
         Ok((

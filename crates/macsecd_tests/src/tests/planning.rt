@@ -4,7 +4,6 @@
 use super::stories::Step::{Closing, Filled, Hex, Keeping, Run, Text};
 use super::stories::{Step, play};
 use crate::{ONE_PAIR, Outcome};
-use std::test::Fail;
 
 /// The link of one pair of keys with a newer pair, of a long key and a short one.
 const TWO_PAIRS: &str = "[left]\nsci = '0200000000010001'\n[right]\nsci = '0200000000020001'\n\
@@ -103,8 +102,8 @@ const PLANNED: &[Step] = &[
 ];
 
 #[test]
-fn each_stage_is_planned_at_both_ends(rt: HostRuntime) -> Result<(), Fail> {
-    play(&rt, rt.alloc(), "story-plan", PLANNED)
+fn each_stage_is_planned_at_both_ends(rt: HostRuntime) {
+    play(&rt, rt.alloc(), "story-plan", PLANNED);
 }
 
 /// An endpoint takes what is planned for it, stage by stage.
@@ -142,8 +141,8 @@ const TAKEN: &[Step] = &[
 ];
 
 #[test]
-fn what_is_planned_is_taken(rt: HostRuntime) -> Result<(), Fail> {
-    play(&rt, rt.alloc(), "story-plan-taken", TAKEN)
+fn what_is_planned_is_taken(rt: HostRuntime) {
+    play(&rt, rt.alloc(), "story-plan-taken", TAKEN);
 }
 
 /// Files of which nothing is read that could be planned.
@@ -174,6 +173,6 @@ const UNREAD: &[Step] = &[
 ];
 
 #[test]
-fn a_file_is_read_as_command_files_are(rt: HostRuntime) -> Result<(), Fail> {
-    play(&rt, rt.alloc(), "story-plan-unread", UNREAD)
+fn a_file_is_read_as_command_files_are(rt: HostRuntime) {
+    play(&rt, rt.alloc(), "story-plan-unread", UNREAD);
 }

@@ -7,7 +7,6 @@ use super::stories::Step::{Failing, Hex, Holds, IsMissing, Run};
 use super::stories::{Step, play};
 use crate::Outcome;
 use std::io::ErrorKind;
-use std::test::Fail;
 
 const MEMORY: Outcome = Outcome::Fault("macsecd: memory\n");
 
@@ -80,6 +79,6 @@ const DISKS: &[Step] = &[
 ];
 
 #[test]
-fn a_file_that_is_not_opened_says_why(rt: HostRuntime) -> Result<(), Fail> {
-    play(&rt, rt.alloc(), "story-shut", DISKS)
+fn a_file_that_is_not_opened_says_why(rt: HostRuntime) {
+    play(&rt, rt.alloc(), "story-shut", DISKS);
 }

@@ -10,7 +10,7 @@ use std::alloc::Allocator;
 use std::env::FillError;
 use std::fs::{File, Metadata, OpenFile, OpenOptions, Permissions};
 use std::io;
-use std::io::{ErrorKind, Read, Seek, SeekFrom, Write};
+use std::io::{ErrorKind, PipeReader, PipeWriter, Read, Seek, SeekFrom, Write};
 use std::net::{Net, SocketAddr, UdpSocket};
 use std::os::fd::{BorrowedFd, OwnedFd};
 use std::os::unix::net;
@@ -298,8 +298,36 @@ impl<'a, R: Files<File = File>> Files for StandIn<'a, R> {
         self.system.canonicalize(alloc, path)
     }
 
+    fn read_link<B: Allocator>(&self, alloc: B, path: &str) -> io::Result<PathBuf<B>> {
+        self.system.read_link(alloc, path)
+    }
+
+    fn hard_link(&self, original: &str, link: &str) -> io::Result<()> {
+        self.system.hard_link(original, link)
+    }
+
+    fn set_permissions(&self, path: &str, to: Permissions) -> io::Result<()> {
+        self.system.set_permissions(path, to)
+    }
+
+    fn symlink(&self, original: &str, link: &str) -> io::Result<()> {
+        self.system.symlink(original, link)
+    }
+
+    fn pipe(&self) -> io::Result<(PipeReader, PipeWriter)> {
+        self.system.pipe()
+    }
+
+    fn chown(&self, path: &str, user: Option<u32>, group: Option<u32>) -> io::Result<()> {
+        self.system.chown(path, user, group)
+    }
+
     fn lchown(&self, path: &str, user: Option<u32>, group: Option<u32>) -> io::Result<()> {
         self.system.lchown(path, user, group)
+    }
+
+    fn create_dir_with_mode(&self, path: &str, mode: u32) -> io::Result<()> {
+        self.system.create_dir_with_mode(path, mode)
     }
 
     fn bind_unix(&self, socket: BorrowedFd<'_>, address: &net::SocketAddr) -> io::Result<()> {
@@ -350,6 +378,14 @@ impl<R: Env + Files + Net> Env for StandIn<'_, R> {
     fn var_at(&self, i: usize, buf: &mut [u8]) -> Result<usize, FillError> {
         self.system.var_at(i, buf)
     }
+
+    fn current_dir(&self, buf: &mut [u8]) -> io::Result<usize> {
+        self.system.current_dir(buf)
+    }
+
+    fn set_current_dir(&self, path: &str) -> io::Result<()> {
+        self.system.set_current_dir(path)
+    }
 }
 
 impl<R: RandomSource> RandomSource for StandIn<'_, R> {
@@ -369,6 +405,18 @@ impl<R: Net + Files> Net for StandIn<'_, R> {
 
     fn connect(&self, at: SocketAddr) -> io::Result<R::Stream> {
         self.system.connect(at)
+    }
+
+    fn connect_timeout(&self, at: SocketAddr, limit: Duration) -> io::Result<R::Stream> {
+        self.system.connect_timeout(at, limit)
+    }
+
+    fn lookup_host(&self, host: &str, port: u16, found: &mut [SocketAddr]) -> io::Result<usize> {
+        self.system.lookup_host(host, port, found)
+    }
+
+    fn unix_pair(&self) -> io::Result<(UnixStream, UnixStream)> {
+        self.system.unix_pair()
     }
 
     fn bind_udp(&self, at: SocketAddr) -> io::Result<UdpSocket> {

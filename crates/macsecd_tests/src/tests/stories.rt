@@ -15,13 +15,12 @@ pub use kept::Kept;
 pub use kept_relays::KeptRelay;
 pub use relays::{Frames, Relayed};
 use std::alloc::Global;
-use std::fs;
 use std::fs::File;
 use std::net::Net;
 use std::process::Abort;
 use std::random::RandomSource;
 use std::rt::{Clock, Env, Files};
-use std::test::Fail;
+use std::{fs, io};
 
 /// A step of a story. Files and folders are named by their paths.
 #[derive(Clone, Copy)]
@@ -34,13 +33,13 @@ pub enum Step {
     /// then fails: that is `output`.
     Closing(u32, u32, &'static [&'static str]),
     /// Relays a frame each way.
-    Relay(Relayed),
+    Relay(&'static Relayed),
     /// Relays beside clients and a parent.
-    Attend(Attended),
+    Attend(&'static Attended),
     /// Keeps a disk file for a client.
-    Keep(Kept),
+    Keep(&'static Kept),
     /// Relays over the disk of a keeper.
-    RelayKept(KeptRelay),
+    RelayKept(&'static KeptRelay),
     /// Runs these words while another open of the file of this path has claimed it: for itself
     /// alone, or along with other readers.
     Claimed(&'static str, &'static [&'static str], Outcome),
@@ -79,7 +78,7 @@ fn take(
     rt: &(impl Abort + Files<File = File> + Net + Clock + Env + RandomSource),
     alloc: Global,
     step: Step,
-) -> Result<(), Fail> {
+) -> io::Result<()> {
     match step {
         Step::Run(words, outcome) => {
             expect(rt, alloc, words, outcome);
@@ -106,7 +105,7 @@ fn take_beside(
     rt: &(impl Abort + Files<File = File> + Net + Clock + Env + RandomSource),
     alloc: Global,
     step: Step,
-) -> Result<(), Fail> {
+) -> io::Result<()> {
     match step {
         Step::Claimed(path, words, outcome) => {
             runs::expect_claimed(rt, alloc, path, words, outcome)
@@ -119,6 +118,20 @@ fn take_beside(
     }
 }
 
+/// Takes steps, one after another, in a folder that is removed at the end.
+fn take_each(
+    rt: &(impl Abort + Files<File = File> + Net + Clock + Env + RandomSource + AllocGlobal),
+    alloc: Global,
+    folder: &str,
+    story: &[Step],
+) -> io::Result<()> {
+    fs::create_dir(rt, folder)?;
+    for step in story {
+        take(rt, alloc, *step)?;
+    }
+    fs::remove_dir_all(rt, folder)
+}
+
 /// Takes steps, one after another, over files in a folder that is not there at first, and that is
 /// removed at the end.
 pub fn play(
@@ -126,12 +139,9 @@ pub fn play(
     alloc: Global,
     folder: &str,
     story: &[Step],
-) -> Result<(), Fail> {
+) {
     let _ = fs::remove_dir_all(rt, folder);
-    fs::create_dir(rt, folder)?;
-    for step in story {
-        take(rt, alloc, *step)?;
+    if let Err(error) = take_each(rt, alloc, folder, story) {
+        panic!(rt; "{folder}: {error:?}");
     }
-    fs::remove_dir_all(rt, folder)?;
-    Ok(())
 }

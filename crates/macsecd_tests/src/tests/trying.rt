@@ -11,7 +11,6 @@ use super::stories::Step::{
 use super::stories::{Step, play};
 use crate::Outcome;
 use std::io::ErrorKind::{NotFound, Other, OutOfMemory};
-use std::test::Fail;
 
 const FORMATTED: Outcome = Outcome::Done("formatted\n");
 
@@ -98,8 +97,8 @@ const TRIED: &[Step] = &[
 ];
 
 #[test]
-fn commands_are_tried(rt: HostRuntime) -> Result<(), Fail> {
-    play(&rt, rt.alloc(), "story-trying", TRIED)
+fn commands_are_tried(rt: HostRuntime) {
+    play(&rt, rt.alloc(), "story-trying", TRIED);
 }
 
 const OLDER: &str = "story-trying-older/disk";
@@ -137,8 +136,8 @@ const TRIED_OLDER: &[Step] = &[
 ];
 
 #[test]
-fn older_files_are_tried(rt: HostRuntime) -> Result<(), Fail> {
-    play(&rt, rt.alloc(), "story-trying-older", TRIED_OLDER)
+fn older_files_are_tried(rt: HostRuntime) {
+    play(&rt, rt.alloc(), "story-trying-older", TRIED_OLDER);
 }
 
 const FAULTY: &str = "story-trial-faults/disk";
@@ -207,6 +206,6 @@ const FAULTS: &[Step] = &[
 ];
 
 #[test]
-fn each_fault_of_a_trial_is_told(rt: HostRuntime) -> Result<(), Fail> {
-    play(&rt, rt.alloc(), "story-trial-faults", FAULTS)
+fn each_fault_of_a_trial_is_told(rt: HostRuntime) {
+    play(&rt, rt.alloc(), "story-trial-faults", FAULTS);
 }

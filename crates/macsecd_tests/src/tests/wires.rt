@@ -5,7 +5,6 @@ use super::link_files::RIGHT;
 use super::stories::Step::{Relay, Run, Text};
 use super::stories::{Frames, Relayed, Step, play};
 use crate::Outcome;
-use std::test::Fail;
 
 /// The plain frame goes out under packet number 1,025; the other one is the first of the left end.
 pub const FRAMES: Frames = Frames {
@@ -32,7 +31,7 @@ const RELAYED: &[Step] = &[
         &["apply", "story-wires/disk", "story-wires/right.toml"],
         Outcome::Done("1 ok\n2 ok\n3 ok\n4 ok\n"),
     ),
-    Relay(Relayed {
+    Relay(&Relayed {
         disk: "story-wires/disk",
         pace: "--turns",
         turns: "1000",
@@ -43,6 +42,6 @@ const RELAYED: &[Step] = &[
 ];
 
 #[test]
-fn each_wire_is_in_its_place(rt: HostRuntime) -> Result<(), Fail> {
-    play(&rt, rt.alloc(), "story-wires", RELAYED)
+fn each_wire_is_in_its_place(rt: HostRuntime) {
+    play(&rt, rt.alloc(), "story-wires", RELAYED);
 }

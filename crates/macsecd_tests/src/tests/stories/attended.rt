@@ -5,13 +5,12 @@ use super::super::expect_over;
 use super::super::stand_in::{Broken, StandIn};
 use crate::Outcome;
 use std::alloc::Global;
-use std::fs;
 use std::fs::File;
+use std::io;
 use std::net::Net;
 use std::process::Abort;
 use std::random::RandomSource;
 use std::rt::{Clock, Env, Files};
-use std::test::Fail;
 
 /// An answer to a client.
 #[derive(Clone, Copy)]
@@ -25,7 +24,6 @@ pub enum Told {
 
 /// A client: what it sends at first, what it sends once all clients have an answer to each of their
 /// first lines, and its answers.
-#[derive(Clone, Copy)]
 pub struct Client {
     pub lines: &'static str,
     pub later: &'static str,
@@ -33,7 +31,6 @@ pub struct Client {
 }
 
 /// A relay between wires to which nothing comes, who is there, and what it comes to.
-#[derive(Clone, Copy)]
 pub struct Attended {
     pub disk: &'static str,
     /// What fails of the disk file.
@@ -53,14 +50,24 @@ pub struct Attended {
 pub fn attend(
     rt: &(impl Abort + Files<File = File> + Net + Clock + Env + RandomSource),
     alloc: Global,
-    attended: Attended,
-) -> Result<(), Fail> {
-    let beside = beside(rt, alloc, &attended)?;
-    run(rt, alloc, &beside, &attended);
+    attended: &Attended,
+) -> io::Result<()> {
+    let beside = beside(rt, alloc, attended)?;
+    run(rt, alloc, &beside, &*attended);
+    expect_beside(rt, alloc, &beside, attended)
+}
+
+/// Looks at what those beside the relay have seen and heard.
+fn expect_beside(
+    rt: &(impl Abort + Files),
+    alloc: Global,
+    beside: &Beside,
+    attended: &Attended,
+) -> io::Result<()> {
     beside.look(rt, "end");
     assert!(rt; beside.has_seen(attended.seen));
     assert!(rt; beside.is_closed_first());
-    expect_told(rt, alloc, &beside, attended.clients)
+    expect_told(rt, alloc, beside, attended.clients)
 }
 
 /// Clients were told what they are to be told.
@@ -69,7 +76,7 @@ pub fn expect_told(
     alloc: Global,
     beside: &Beside,
     clients: &[Client],
-) -> Result<(), Fail> {
+) -> io::Result<()> {
     for i in 0..clients.len() {
         let text = beside.told(alloc, i)?;
         let told = clients[i].told;
@@ -83,7 +90,7 @@ fn beside(
     files: &impl Files<File = File>,
     alloc: Global,
     attended: &Attended,
-) -> Result<Beside, Fail> {
+) -> io::Result<Beside> {
     let mut beside = Beside::new(alloc, attended.control);
     for client in attended.clients {
         beside.invite(alloc, client.lines, client.later)?;

@@ -2,35 +2,34 @@
 
 use super::Step;
 use std::alloc::Global;
-use std::fs;
 use std::fs::{File, OpenOptions, Permissions};
 use std::io::{Read, Seek, SeekFrom, Write};
 use std::os::unix::fs::{MetadataExt, OpenOptionsExt, PermissionsExt};
 use std::process::Abort;
 use std::rt::Files;
-use std::test::Fail;
+use std::{fs, io};
 
 /// Takes a step that makes or changes a file, or looks at one.
-pub fn make(rt: &(impl Abort + Files<File = File>), alloc: Global, step: Step) -> Result<(), Fail> {
+pub fn make(rt: &(impl Abort + Files<File = File>), alloc: Global, step: Step) -> io::Result<()> {
     match step {
         Step::Text(path, text) => write(rt, path, text.as_bytes()),
-        Step::Mode(path, mode) => set_mode(rt, path, mode),
+        Step::Mode(path, mode) => rt.set_permissions(path, Permissions::from_mode(mode)),
         Step::Hex(path, text) => write_hex(rt, alloc, path, text),
         Step::Filled(path, octet, count) => fill(rt, alloc, path, octet, count),
         Step::Zeros(path, count) => zeros(rt, path, count),
         Step::Patch(path, at, text) => patch(rt, alloc, path, at, text),
-        Step::Folder(path) => folder(rt, path),
-        Step::Link(original, link) => second_name(rt, original, link),
-        Step::Symbolic(text, link) => symbolic(rt, text, link),
+        Step::Folder(path) => fs::create_dir(rt, path),
+        Step::Link(original, link) => rt.hard_link(original, link),
+        Step::Symbolic(text, link) => rt.symlink(text, link),
         _ => look(rt, alloc, step),
     }
 }
 
 /// Takes a step that looks at a file.
-fn look(rt: &(impl Abort + Files<File = File>), alloc: Global, step: Step) -> Result<(), Fail> {
+fn look(rt: &(impl Abort + Files<File = File>), alloc: Global, step: Step) -> io::Result<()> {
     match step {
         Step::Holds(path, text) => {
-            let octets = octets_of(rt, alloc, text)?;
+            let octets = octets_of(rt, alloc, text);
             expect_octets(rt, alloc, path, octets.as_slice())
         }
         Step::HasOctets(path, count) => expect_length(rt, path, count),
@@ -41,18 +40,10 @@ fn look(rt: &(impl Abort + Files<File = File>), alloc: Global, step: Step) -> Re
 }
 
 /// Makes a file of these octets, which others cannot read where it is new.
-fn write(rt: &(impl Abort + Files<File = File>), path: &str, octets: &[u8]) -> Result<(), Fail> {
+fn write(rt: &(impl Abort + Files<File = File>), path: &str, octets: &[u8]) -> io::Result<()> {
     let mut options = OpenOptions::new();
     options.write(true).create(true).truncate(true).mode(0o600);
-    let mut file = options.open(rt, path)?;
-    file.write_all(octets)?;
-    Ok(())
-}
-
-/// Gives a file this mode.
-fn set_mode(rt: &impl Files<File = File>, path: &str, mode: u32) -> Result<(), Fail> {
-    rt.set_permissions(path, Permissions::from_mode(mode))?;
-    Ok(())
+    options.open(rt, path)?.write_all(octets)
 }
 
 /// Makes a file of octets that are spelled in hex.
@@ -61,18 +52,9 @@ fn write_hex(
     alloc: Global,
     path: &str,
     text: &str,
-) -> Result<(), Fail> {
-    let octets = octets_of(rt, alloc, text)?;
+) -> io::Result<()> {
+    let octets = octets_of(rt, alloc, text);
     write(rt, path, octets.as_slice())
-}
-
-/// So many of one octet.
-fn repeated(alloc: Global, octet: u8, count: usize) -> Result<Vec<u8>, Fail> {
-    let mut octets = Vec::new(alloc);
-    for _ in 0..count {
-        octets.push(octet)?;
-    }
-    Ok(octets)
 }
 
 /// Makes a file of one octet, so many times.
@@ -82,22 +64,21 @@ fn fill(
     path: &str,
     octet: u8,
     count: usize,
-) -> Result<(), Fail> {
-    let octets = repeated(alloc, octet, count)?;
+) -> io::Result<()> {
+    let octets = vec![in alloc; octet; count]?;
     write(rt, path, octets.as_slice())
 }
 
 /// Makes a file of so many zeros.
-fn zeros(rt: &impl Files<File = File>, path: &str, count: u64) -> Result<(), Fail> {
-    fs::create(rt, path)?.set_len(count)?;
-    Ok(())
+fn zeros(rt: &impl Files<File = File>, path: &str, count: u64) -> io::Result<()> {
+    fs::create(rt, path)?.set_len(count)
 }
 
 /// The octets that a text spells.
-pub fn octets_of(rt: &impl Abort, alloc: Global, text: &str) -> Result<Vec<u8>, Fail> {
-    let mut octets = repeated(alloc, 0, text.len() / 2)?;
-    assert!(rt; hex::decode_to_slice(text.as_bytes(), octets.as_mut_slice()).is_ok());
-    Ok(octets)
+pub fn octets_of(rt: &impl Abort, alloc: Global, text: &str) -> Vec<u8> {
+    hex::decode(alloc, text.as_bytes())
+        .ok()
+        .expect(rt, "hex digits")
 }
 
 /// Writes octets that are spelled in hex from this octet of a file on.
@@ -107,41 +88,20 @@ fn patch(
     path: &str,
     at: u64,
     text: &str,
-) -> Result<(), Fail> {
-    let octets = octets_of(rt, alloc, text)?;
+) -> io::Result<()> {
+    let octets = octets_of(rt, alloc, text);
     write_from(rt, path, at, octets.as_slice())
 }
 
 /// Writes octets from this octet of a file on.
-fn write_from(
-    rt: &impl Files<File = File>,
-    path: &str,
-    at: u64,
-    octets: &[u8],
-) -> Result<(), Fail> {
+fn write_from(rt: &impl Files<File = File>, path: &str, at: u64, octets: &[u8]) -> io::Result<()> {
     let mut file = OpenOptions::new().write(true).open(rt, path)?;
     file.seek(SeekFrom::Start(at))?;
-    file.write_all(octets)?;
-    Ok(())
-}
-
-fn folder(rt: &impl Files<File = File>, path: &str) -> Result<(), Fail> {
-    fs::create_dir(rt, path)?;
-    Ok(())
-}
-
-fn second_name(rt: &impl Files<File = File>, original: &str, link: &str) -> Result<(), Fail> {
-    rt.hard_link(original, link)?;
-    Ok(())
-}
-
-fn symbolic(rt: &impl Files<File = File>, text: &str, link: &str) -> Result<(), Fail> {
-    rt.symlink(text, link)?;
-    Ok(())
+    file.write_all(octets)
 }
 
 /// The octets of a file.
-pub fn octets_in(rt: &impl Files<File = File>, alloc: Global, path: &str) -> Result<Vec<u8>, Fail> {
+pub fn octets_in(rt: &impl Files<File = File>, alloc: Global, path: &str) -> io::Result<Vec<u8>> {
     let mut found = Vec::new(alloc);
     fs::open(rt, path)?.read_to_end(&mut found)?;
     Ok(found)
@@ -153,32 +113,28 @@ pub fn expect_octets(
     alloc: Global,
     path: &str,
     octets: &[u8],
-) -> Result<(), Fail> {
+) -> io::Result<()> {
     let found = octets_in(rt, alloc, path)?;
     assert!(rt; found.as_slice() == octets, "{path}");
     Ok(())
 }
 
 /// The file has so many octets.
-fn expect_length(
-    rt: &(impl Abort + Files<File = File>),
-    path: &str,
-    count: u64,
-) -> Result<(), Fail> {
+fn expect_length(rt: &(impl Abort + Files<File = File>), path: &str, count: u64) -> io::Result<()> {
     let about = fs::metadata(rt, path)?;
-    assert_eq!(rt; about.len(), count, "{path}");
+    assert!(rt; about.len() == count, "{path}");
     Ok(())
 }
 
 /// The file has this mode.
-fn expect_mode(rt: &(impl Abort + Files<File = File>), path: &str, mode: u32) -> Result<(), Fail> {
+fn expect_mode(rt: &(impl Abort + Files<File = File>), path: &str, mode: u32) -> io::Result<()> {
     let about = fs::metadata(rt, path)?;
-    assert_eq!(rt; about.mode() & 0o7777, mode, "{path}");
+    assert!(rt; about.mode() & 0o7777 == mode, "{path}");
     Ok(())
 }
 
 /// There is no such file.
-fn expect_none(rt: &(impl Abort + Files<File = File>), path: &str) -> Result<(), Fail> {
+fn expect_none(rt: &(impl Abort + Files<File = File>), path: &str) -> io::Result<()> {
     assert!(rt; !fs::exists(rt, path)?, "{path}");
     Ok(())
 }

@@ -5,13 +5,13 @@ use super::super::expect_over;
 use super::super::stand_in::{Broken, StandIn};
 use super::super::visitors::Visitor;
 use crate::Outcome;
-use std::alloc::Global;
+use std::alloc::{AllocError, Global};
 use std::fs::File;
+use std::io;
 use std::net::Net;
 use std::process::Abort;
 use std::random::RandomSource;
 use std::rt::{Clock, Env, Files};
-use std::test::Fail;
 
 /// A request: its first octet, the number of the sector, and what its sector is full of.
 pub type Request = (u8, u64, u8);
@@ -20,7 +20,6 @@ pub type Request = (u8, u64, u8);
 pub type Answer = (u8, u8);
 
 /// A keeper, to which clients come at once, and what it comes to.
-#[derive(Clone, Copy)]
 pub struct Kept {
     pub disk: &'static str,
     /// What fails of the disk file.
@@ -39,13 +38,12 @@ pub struct Kept {
 }
 
 /// Appends a sector full of an octet.
-fn push_sector(octets: &mut Vec<u8>, fill: u8) -> Result<(), Fail> {
-    octets.extend_from_slice(&[fill; 512])?;
-    Ok(())
+fn push_sector(octets: &mut Vec<u8>, fill: u8) -> Result<(), AllocError> {
+    octets.extend_from_slice(&[fill; 512])
 }
 
 /// The octets of requests.
-fn requests_of(alloc: Global, requests: &[Request]) -> Result<Vec<u8>, Fail> {
+fn requests_of(alloc: Global, requests: &[Request]) -> Result<Vec<u8>, AllocError> {
     let mut octets = Vec::new(alloc);
     for (kind, at, fill) in requests {
         octets.push(*kind)?;
@@ -56,7 +54,7 @@ fn requests_of(alloc: Global, requests: &[Request]) -> Result<Vec<u8>, Fail> {
 }
 
 /// The octets of a greeting and of answers.
-fn answers_of(alloc: Global, sectors: u64, answers: &[Answer]) -> Result<Vec<u8>, Fail> {
+fn answers_of(alloc: Global, sectors: u64, answers: &[Answer]) -> Result<Vec<u8>, AllocError> {
     let mut octets = Vec::new(alloc);
     octets.extend_from_slice(b"MSECKEEP")?;
     octets.extend_from_slice(&sectors.to_be_bytes())?;
@@ -71,10 +69,10 @@ fn answers_of(alloc: Global, sectors: u64, answers: &[Answer]) -> Result<Vec<u8>
 pub fn keep(
     rt: &(impl Abort + Files<File = File> + Net + Clock + Env + RandomSource),
     alloc: Global,
-    kept: Kept,
-) -> Result<(), Fail> {
-    let beside = beside(rt, alloc, &kept)?;
-    run(rt, alloc, &beside, &kept);
+    kept: &Kept,
+) -> io::Result<()> {
+    let beside = beside(rt, alloc, kept)?;
+    run(rt, alloc, &beside, &*kept);
     beside.look(rt, "end");
     assert!(rt; beside.has_seen(kept.seen));
     for client in 0..kept.clients {
@@ -89,7 +87,7 @@ pub fn keep(
 }
 
 /// Who is there beside the keeper.
-fn beside(files: &impl Files<File = File>, alloc: Global, kept: &Kept) -> Result<Beside, Fail> {
+fn beside(files: &impl Files<File = File>, alloc: Global, kept: &Kept) -> io::Result<Beside> {
     let mut beside = Beside::new(alloc, kept.socket);
     for _client in 0..kept.clients {
         beside.admit(Visitor::new(requests_of(alloc, kept.requests)?))?;

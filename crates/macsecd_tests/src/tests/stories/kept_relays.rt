@@ -8,20 +8,19 @@ use super::super::stand_in::{Broken, StandIn};
 use super::attended::{Client, expect_told};
 use super::relays::{Frames, expect_frames, peers_of};
 use crate::Outcome;
-use std::alloc::Global;
+use std::alloc::{AllocError, Global};
 use std::fs::File;
+use std::io;
 use std::net::Net;
 use std::process::Abort;
 use std::random::RandomSource;
 use std::rt::{Clock, Env, Files};
-use std::test::Fail;
 use std::time::{Duration, Instant};
 
 /// How many seconds a relay may take.
 const MOST: u64 = 15;
 
 /// A relay over the disk of a keeper, what is sent to it, and what it comes to.
-#[derive(Clone, Copy)]
 pub struct KeptRelay {
     pub disk: &'static str,
     pub keeper: &'static str,
@@ -48,14 +47,14 @@ pub struct KeptRelay {
 pub fn relay_kept(
     rt: &(impl Abort + Files<File = File> + Net + Clock + Env + RandomSource),
     alloc: Global,
-    relayed: KeptRelay,
-) -> Result<(), Fail> {
+    relayed: &KeptRelay,
+) -> io::Result<()> {
     let peers = peers_of(rt, alloc, relayed.frames, relayed.strangers)?;
-    let beside = beside(rt, alloc, &relayed)?;
-    run_in_time(rt, alloc, &peers, &beside, &relayed)?;
+    let beside = beside(rt, alloc, relayed)?;
+    run_in_time(rt, alloc, &peers, &beside, relayed)?;
     beside.look(rt, "end");
     assert!(rt; beside.has_seen(relayed.seen));
-    expect_frames(rt, alloc, &peers, relayed.frames)?;
+    expect_frames(rt, alloc, &peers, relayed.frames);
     expect_told(rt, alloc, &beside, relayed.clients)
 }
 
@@ -64,7 +63,7 @@ fn beside(
     rt: &(impl Abort + Files<File = File> + Net),
     alloc: Global,
     relayed: &KeptRelay,
-) -> Result<Beside, Fail> {
+) -> io::Result<Beside> {
     let mut beside = Beside::new(alloc, relayed.control);
     for client in relayed.clients {
         beside.invite(alloc, client.lines, client.later)?;
@@ -90,7 +89,7 @@ fn run_in_time(
     peers: &Peers,
     beside: &Beside,
     relayed: &KeptRelay,
-) -> Result<(), Fail> {
+) -> io::Result<()> {
     let begun = Instant::now(rt)?;
     run(rt, alloc, peers, beside, relayed)?;
     let taken = begun.elapsed(rt)?;
@@ -106,7 +105,7 @@ fn run(
     peers: &Peers,
     beside: &Beside,
     relayed: &KeptRelay,
-) -> Result<(), Fail> {
+) -> io::Result<()> {
     let (peer1, peer2) = peers.addresses(alloc)?;
     let words = words_of(alloc, peer1.as_str(), peer2.as_str(), relayed)?;
     expect_relay(rt, alloc, peers, beside, words.as_slice(), relayed.outcome);
@@ -119,7 +118,7 @@ fn words_of<'a>(
     peer1: &'a str,
     peer2: &'a str,
     relayed: &KeptRelay,
-) -> Result<Vec<&'a str>, Fail> {
+) -> Result<Vec<&'a str>, AllocError> {
     let mut words = Vec::new(alloc);
     words.push("relay")?;
     words.push(relayed.disk)?;

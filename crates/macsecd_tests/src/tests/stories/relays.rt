@@ -7,11 +7,11 @@ use super::files::octets_of;
 use crate::Outcome;
 use std::alloc::Global;
 use std::fs::File;
+use std::io;
 use std::net::Net;
 use std::process::Abort;
 use std::random::RandomSource;
 use std::rt::{Clock, Env, Files};
-use std::test::Fail;
 
 /// The frames of a relay, spelled in hex.
 #[derive(Clone, Copy)]
@@ -26,7 +26,6 @@ pub struct Frames {
 }
 
 /// A relay, what is sent to it, and what it comes to.
-#[derive(Clone, Copy)]
 pub struct Relayed {
     pub disk: &'static str,
     /// The two words that say which turns it takes.
@@ -42,11 +41,12 @@ pub struct Relayed {
 pub fn relay(
     rt: &(impl Abort + Files<File = File> + Net + Clock + Env + RandomSource),
     alloc: Global,
-    relayed: Relayed,
-) -> Result<(), Fail> {
+    relayed: &Relayed,
+) -> io::Result<()> {
     let peers = peers_of(rt, alloc, relayed.frames, relayed.strangers)?;
     run(rt, alloc, &peers, relayed)?;
-    expect_frames(rt, alloc, &peers, relayed.frames)
+    expect_frames(rt, alloc, &peers, relayed.frames);
+    Ok(())
 }
 
 /// The peers that send these frames.
@@ -55,9 +55,9 @@ pub fn peers_of(
     alloc: Global,
     frames: Frames,
     strangers: u32,
-) -> Result<Peers, Fail> {
-    let plain = octets_of(rt, alloc, frames.plain)?;
-    let arrived = octets_of(rt, alloc, frames.arrived)?;
+) -> io::Result<Peers> {
+    let plain = octets_of(rt, alloc, frames.plain);
+    let arrived = octets_of(rt, alloc, frames.arrived);
     Peers::new(rt, plain, arrived, strangers)
 }
 
@@ -66,8 +66,8 @@ fn run(
     rt: &(impl Abort + Files<File = File> + Net + Clock + Env + RandomSource),
     alloc: Global,
     peers: &Peers,
-    relayed: Relayed,
-) -> Result<(), Fail> {
+    relayed: &Relayed,
+) -> io::Result<()> {
     let (peer1, peer2) = peers.addresses(alloc)?;
     let (peer1, peer2) = (peer1.as_str(), peer2.as_str());
     let words = [
@@ -103,14 +103,8 @@ fn expect_relay<'a>(
 }
 
 /// The frames that are to come to the peers have come.
-pub fn expect_frames(
-    rt: &impl Abort,
-    alloc: Global,
-    peers: &Peers,
-    frames: Frames,
-) -> Result<(), Fail> {
-    let delivered = octets_of(rt, alloc, frames.delivered)?;
-    let protected = octets_of(rt, alloc, frames.protected)?;
+pub fn expect_frames(rt: &impl Abort, alloc: Global, peers: &Peers, frames: Frames) {
+    let delivered = octets_of(rt, alloc, frames.delivered);
+    let protected = octets_of(rt, alloc, frames.protected);
     assert!(rt; peers.have(&delivered, &protected));
-    Ok(())
 }

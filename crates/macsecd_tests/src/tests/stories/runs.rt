@@ -7,18 +7,18 @@ use super::files::{expect_octets, octets_in};
 use crate::{Closing, Outcome, status_of};
 use std::alloc::Global;
 use std::fs::{File, OpenOptions};
+use std::io;
 use std::net::Net;
 use std::process::Abort;
 use std::random::RandomSource;
 use std::rt::{Clock, Env, Files};
-use std::test::Fail;
 
 /// What each of these files holds.
 fn octets_in_each(
     rt: &impl Files<File = File>,
     alloc: Global,
     paths: &[&str],
-) -> Result<Vec<Vec<u8>>, Fail> {
+) -> io::Result<Vec<Vec<u8>>> {
     let mut each = Vec::new(alloc);
     for path in paths {
         each.push(octets_in(rt, alloc, path)?)?;
@@ -32,7 +32,7 @@ fn expect_octets_in_each(
     alloc: Global,
     paths: &[&str],
     each: &[Vec<u8>],
-) -> Result<(), Fail> {
+) -> io::Result<()> {
     assert!(rt; paths.len() == each.len());
     for i in 0..paths.len() {
         expect_octets(rt, alloc, paths[i], each[i].as_slice())?;
@@ -47,16 +47,15 @@ pub fn expect_keeping(
     paths: &[&str],
     words: &[&str],
     outcome: Outcome,
-) -> Result<(), Fail> {
+) -> io::Result<()> {
     let each = octets_in_each(rt, alloc, paths)?;
     expect(rt, alloc, words, outcome);
     expect_octets_in_each(rt, alloc, paths, each.as_slice())
 }
 
 /// Opens a file as one that claims it does.
-fn opened(rt: &impl Files<File = File>, path: &str) -> Result<File, Fail> {
-    let file = OpenOptions::new().read(true).write(true).open(rt, path)?;
-    Ok(file)
+fn opened(rt: &impl Files<File = File>, path: &str) -> io::Result<File> {
+    OpenOptions::new().read(true).write(true).open(rt, path)
 }
 
 /// Runs these words while a file is claimed for itself alone: it is kept.
@@ -66,7 +65,7 @@ pub fn expect_claimed(
     path: &str,
     words: &[&str],
     outcome: Outcome,
-) -> Result<(), Fail> {
+) -> io::Result<()> {
     let file = opened(rt, path)?;
     assert!(rt; file.try_lock().is_ok());
     expect_keeping(rt, alloc, &[path], words, outcome)
@@ -79,7 +78,7 @@ pub fn expect_shared(
     path: &str,
     words: &[&str],
     outcome: Outcome,
-) -> Result<(), Fail> {
+) -> io::Result<()> {
     let file = opened(rt, path)?;
     assert!(rt; file.try_lock_shared().is_ok());
     expect_keeping(rt, alloc, &[path], words, outcome)
@@ -115,6 +114,6 @@ pub fn expect_output(
     let mut out = Closing { writes, flushes };
     let mut err = Vec::new(alloc);
     let status = status_of(rt, alloc, words, &mut b"".as_slice(), &mut out, &mut err);
-    assert_eq!(rt; err.as_slice(), b"macsecd: output\n".as_slice());
-    assert_eq!(rt; status, 5);
+    assert!(rt; err.as_slice() == b"macsecd: output\n".as_slice());
+    assert!(rt; status == 5);
 }
