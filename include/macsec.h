@@ -18,7 +18,7 @@
  *    What a call writes need not be initialised. The proofs assume all this: nothing checks it.
  *  - Calls on different memory may run concurrently. On one endpoint one call runs at a time, those
  *    that only read included.
- *  - Stack (x86-64): macs_open takes 385,048 octets, each other call less than 20,000. It is not
+ *  - Stack (x86-64): macs_open takes 385,016 octets, each other call less than 20,000. It is not
  *    cleared afterwards, and may hold keys.
  */
 #ifndef MACSEC_H
@@ -98,7 +98,8 @@ extern "C" {
     X(MACS_HELD_BACK, 95, "it verified, but its packet number is not reserved yet")                  \
     /* a command that does not fit the configuration */                                              \
     X(MACS_REFUSED_START_RANGE, 100, "refused: the first packet number is 0")                        \
-    X(MACS_REFUSED_OFFSET_CHOICE, 101, "refused: the offset is not 0, 30 or 50")                     \
+    X(MACS_REFUSED_OFFSET_CHOICE, 101,                                                               \
+      "refused: the offset is not 0, 30 or 50, or not 0 without confidentiality")                    \
     X(MACS_REFUSED_OWN_SCI, 102, "refused: the new channel has the endpoint's own SCI")              \
     X(MACS_REFUSED_END_STATION_SCI, 103, "refused: the port of the endpoint's SCI is not 00-01")     \
     X(MACS_REFUSED_NO_CHANNEL, 104, "refused: there is no such receive channel")                     \
@@ -107,7 +108,7 @@ extern "C" {
     X(MACS_REFUSED_SLOT_TAKEN, 107, "refused: there is an association at that number")               \
     X(MACS_REFUSED_SLOT_EMPTY, 108, "refused: there is no association at that number")               \
     X(MACS_REFUSED_IN_USE, 109, "refused: frames go out under this association")                     \
-    X(MACS_REFUSED_KEY_SPENT, 110, "refused: the key was installed on this side before")             \
+    X(MACS_REFUSED_KEY_SPENT, 110, "refused: the key was installed before to send, or for this SCI") \
     X(MACS_REFUSED_SPENT_FULL, 111, "refused: 512 keys were installed on this side")
 
 enum macs_answer {
@@ -253,7 +254,9 @@ uint32_t macs_open_frame(const struct macs_key *key, const struct macs_sci *sci,
  *  - The sectors for macs_open are read after a sync that succeeded.
  *  - Nobody else writes these sectors, and no older copy of them is ever opened, as from a backup:
  *    an endpoint on it would use packet numbers a second time. One endpoint at a time is open on a
- *    disk. */
+ *    disk.
+ *  - A key for sending is installed in one endpoint alone, and was never installed under its SCI on
+ *    another disk. */
 
 #define MACS_SECTOR 512      /* octets of a sector */
 #define MACS_SECTORS 1028    /* the fewest sectors of a disk: 526,336 octets */
@@ -330,7 +333,7 @@ struct macs_command {
     uint32_t window;     /* the replay window, in packet numbers */
     uint8_t an;          /* the association number, 0 to 3 */
     uint8_t choice;      /* see enum macs_command_kind */
-    uint8_t offset;      /* the confidentiality offset: 0, 30 or 50 octets */
+    uint8_t offset;      /* 0, 30 or 50 octets; 0 without confidentiality */
     struct macs_sci sci; /* the receive channel */
     struct macs_key key; /* as macs_key_new makes it */
 };
@@ -388,11 +391,10 @@ uint32_t macs_open(struct macs_endpoint *e, const struct macs_sector *sectors, s
 void macs_close(struct macs_endpoint *e);
 
 /* Queues a command, and stores its ticket: 1, 2 and so on since the opening. It takes effect when
- * macs_next_call or macs_did_call answers MACS_DONE with this ticket and MACS_OK: then no power loss
- * loses it. Pending commands are lost at a power loss, by macs_close and after MACS_DISK, but for the
- * one that is under way: the next opening finds it, or not. MACS_OK, or the first that holds of
- * MACS_CLOSED, MACS_FIELD, MACS_STOPPED, MACS_QUEUE_FULL and MACS_TICKETS_SPENT: then nothing has
- * changed.
+ * macs_did_call answers MACS_DONE with this ticket and MACS_OK: then no power loss loses it. Pending
+ * commands are lost at a power loss, by macs_close and after MACS_DISK, but for the one that is
+ * under way: the next opening finds it, or not. MACS_OK, or the first that holds of MACS_CLOSED,
+ * MACS_FIELD, MACS_STOPPED, MACS_QUEUE_FULL and MACS_TICKETS_SPENT: then nothing has changed.
  *
  * MACS_FIELD: the kind, `an`, `choice` or the length of the key is out of its range. Other values
  * that do not fit are refused when the command's turn comes, by its `answer`. */
