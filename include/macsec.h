@@ -108,7 +108,7 @@ extern "C" {
     X(MACS_REFUSED_SLOT_TAKEN, 107, "refused: there is an association at that number")               \
     X(MACS_REFUSED_SLOT_EMPTY, 108, "refused: there is no association at that number")               \
     X(MACS_REFUSED_IN_USE, 109, "refused: frames go out under this association")                     \
-    X(MACS_REFUSED_KEY_SPENT, 110, "refused: the key was installed before to send, or for this SCI") \
+    X(MACS_REFUSED_KEY_SPENT, 110, "refused: the key was installed before, to send or for this SCI") \
     X(MACS_REFUSED_SPENT_FULL, 111, "refused: 512 keys were installed on this side")
 
 enum macs_answer {
